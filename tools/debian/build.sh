@@ -4,8 +4,9 @@
 #   tools/debian/build.sh [--reproducible] [FOLDER]
 #
 # It is FOLDER/nagdrez_VERSION_amd64.deb; FOLDER is tools/debian/out where none is given. ./fast-check-build proves and builds the program first, where it is
-# not built. The variable FAST_CHECK may name a program that is packed in its place. It counts as proved where it is the one that `rt ci` or ./fast-check-build
-# has left here, in crates/fast_check_cli/out/fast_check_cli, and no source is newer; with any other the version ends with `~unproved`.
+# not built, and the one that reads TypeScript. The variables FAST_CHECK and FAST_CHECK_SOURCE may name programs that are packed in their place. These count as proved
+# where they are those that `rt ci` or ./fast-check-build has left here, in crates/fast_check_cli/out and crates/fast_check_source/out, and no source is newer; with any
+# other the version ends with `~unproved`.
 #
 # With --reproducible all dates are that of the commit, and changes that are not committed are refused: two packages of one commit and one program are the same,
 # byte for byte. Else the dates are that of the variable SOURCE_DATE_EPOCH, or of now.
@@ -16,16 +17,39 @@ umask 022
 export LC_ALL=C TZ=UTC
 here=$(cd "$(dirname "$(readlink -f "${BASH_SOURCE[0]}")")" && pwd)
 top=$(cd "$here/../.." && pwd)
-built="$top/crates/fast_check_cli/out/fast_check_cli"
 
 fail() {
   echo "build.sh: $2" >&2
   exit "$1"
 }
 
-# Whether the program is the one that was proved here, of the sources as they are.
-is_proved() {
-  [ "$program" -ef "$built" ] && [ -z "$(find "$top/crates.txt" "$top"/crates/*/{src,specs,proofs} -newer "$built" -print -quit 2> /dev/null)" ]
+# Finds the program of a crate: the one that is named, else the proved one. It is proved where it was built here, of the sources as they are.
+find_program() {
+  local crate=$1 built="$top/crates/$1/out/$1"
+  found=$2
+  if [ -z "$found" ]; then
+    found=$built
+    "$top/fast-check-build" "$crate" >&2 || fail 5 "the program is not built"
+  elif [[ ! $found -ef $built || -n $(find "$top/crates.txt" "$top"/crates/*/{src,specs,proofs} -newer "$built" -print -quit 2> /dev/null) ]]; then
+    proof="Not everything is proved of the programs in this package."
+    echo "build.sh: $found was not proved here, or of other sources: the version is $version~unproved" >&2
+  fi
+  [[ -f $found && -x $found ]] || fail 5 "there is no program $found"
+  found=$(readlink -f "$found")
+}
+
+# Says the sums of a program, as it is packed and as it was built.
+say_sums() {
+  echo "  * SHA-256 of /usr/lib/nagdrez/$1:"
+  echo "    $(sha256sum < "$root/usr/lib/nagdrez/$1" | cut -d ' ' -f 1)"
+  echo "  * SHA-256 of the same program as it was built, with its symbols:"
+  echo "    $(sha256sum < "$2" | cut -d ' ' -f 1)"
+}
+
+# Packs a program.
+add_program() {
+  install "$2" "$lib/$1"
+  strip --remove-section=.comment --remove-section=.note "$lib/$1"
 }
 
 # Makes the changelog, whose one entry says what the package is made of.
@@ -33,10 +57,8 @@ write_changelog() {
   echo "nagdrez ($version) unstable; urgency=medium"
   echo
   echo "  * Commit $commit${changes:+, with changes}."
-  echo "  * SHA-256 of /usr/lib/nagdrez/fast-check:"
-  echo "    $(sha256sum < "$root/usr/lib/nagdrez/fast-check" | cut -d ' ' -f 1)"
-  echo "  * SHA-256 of the same program as it was built, with its symbols:"
-  echo "    $(sha256sum < "$program" | cut -d ' ' -f 1)"
+  say_sums fast-check "$program"
+  say_sums fast-check-source "$source_program"
   echo "  * $proof"
   echo
   echo " -- $(sed -n 's/^Maintainer: //p' "$here/control")  $(date -R -d "@$SOURCE_DATE_EPOCH")"
@@ -48,8 +70,8 @@ lay_out() {
   local zsh="$root/usr/share/zsh/vendor-completions" fish="$root/usr/share/fish/vendor_completions.d"
   install -d "$root/DEBIAN" "$root/usr/bin" "$lib/tools/typescript" "$doc/examples" "$man" "$completions" "$zsh" "$fish"
   install "$here"/bin/* "$root/usr/bin"
-  install "$program" "$lib/fast-check"
-  strip --remove-section=.comment --remove-section=.note "$lib/fast-check"
+  add_program fast-check "$program"
+  add_program fast-check-source "$source_program"
   install "$top/fast-check-ts" "$lib"
   echo "$version" > "$lib/VERSION"
   cp -r "$top/tools/typescript/src" "$top/tools/typescript/bin" "$top/tools/typescript/newest.sh" "$lib/tools/typescript"
@@ -75,7 +97,7 @@ lay_out() {
 write_control() {
   cp "$here/control" "$made/debian/control"
   cd "$made"
-  { dpkg-shlibdeps -O -e "$root/usr/lib/nagdrez/fast-check" && echo "Proof=$proof"; } > debian/substvars
+  { dpkg-shlibdeps -O -e "$root/usr/lib/nagdrez/fast-check" -e "$root/usr/lib/nagdrez/fast-check-source" && echo "Proof=$proof"; } > debian/substvars
   dpkg-gencontrol -pnagdrez -P"$root" -O > "$root/DEBIAN/control"
   (cd "$root" && find usr -type f -print0 | sort -z | xargs -0 md5sum > DEBIAN/md5sums)
   chmod -R u=rwX,go=rX "$root"
@@ -99,19 +121,14 @@ if [ "$reproducible" ]; then
   SOURCE_DATE_EPOCH=$committed
 fi
 
-program=${FAST_CHECK-}
 version=$(< "$top/VERSION")
-proof="Every function of the program is proved to meet its contract."
-if [ -z "$program" ]; then
-  program=$built
-  "$top/fast-check-build" fast_check_cli >&2 || fail 5 "the program is not built"
-elif ! is_proved; then
-  version+="~unproved"
-  proof="Nothing is proved of the program in this package."
-  echo "build.sh: $program was not proved here, or of other sources: the version is $version" >&2
-fi
-[[ -f $program && -x $program ]] || fail 5 "there is no program $program"
-program=$(readlink -f "$program")
+all_proved="Every function of the programs is proved to meet its contract."
+proof=$all_proved
+find_program fast_check_cli "${FAST_CHECK-}"
+program=$found
+find_program fast_check_source "${FAST_CHECK_SOURCE-}"
+source_program=$found
+[ "$proof" = "$all_proved" ] || version+="~unproved"
 
 folder=${1:-$here/out}
 mkdir -p "$folder"

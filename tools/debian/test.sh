@@ -5,14 +5,17 @@
 #   tools/debian/test.sh           installs nothing: the files of the package lie over those of this machine for the tests alone
 #   tools/debian/test.sh --fresh   and in a new Debian 12, which debootstrap fetches, with what the package depends on: some minutes, as root
 #
-# The program is that of the variable FAST_CHECK, else the proved one of this repository, else the one that tools/unproved compiles. Needs lintian and mandoc.
+# The programs are those of the variables FAST_CHECK and FAST_CHECK_SOURCE, else the proved ones of this repository, else those that tools/unproved compiles. Needs
+# lintian and mandoc.
 set -u
 export LC_ALL=C
 here=$(cd "$(dirname "$(readlink -f "${BASH_SOURCE[0]}")")" && pwd)
 top=$(cd "$here/../.." && pwd)
 program=${FAST_CHECK:-$top/crates/fast_check_cli/out/fast_check_cli}
 [ -x "$program" ] || program=$("$top/tools/unproved") || exit 5
-unset FAST_CHECK SOURCE_DATE_EPOCH
+source_program=${FAST_CHECK_SOURCE:-$top/crates/fast_check_source/out/fast_check_source}
+[ -x "$source_program" ] || source_program=$("$top/tools/unproved" --source) || exit 5
+unset FAST_CHECK FAST_CHECK_SOURCE SOURCE_DATE_EPOCH
 for tool in lintian mandoc unshare; do
   command -v "$tool" > /dev/null || { echo "test.sh: $tool is not there; on Debian: apt-get install -y lintian mandoc util-linux" >&2; exit 5; }
 done
@@ -49,9 +52,9 @@ copy_to() {
   (cd "$1" && git init -q && git add . && git -c user.name=N -c user.email=n@n.example commit -q -m "A copy") || exit 1
 }
 
-# Makes a package in a folder of a copy, with the program that is not proved.
+# Makes a package in a folder of a copy, with the programs that are not proved.
 build_in() {
-  (cd "$1" && FAST_CHECK=$program tools/debian/build.sh "${@:2}")
+  (cd "$1" && FAST_CHECK=$program FAST_CHECK_SOURCE=$source_program tools/debian/build.sh "${@:2}")
 }
 
 # What `dpkg-deb -f` says of the package in a folder.
@@ -61,16 +64,17 @@ field_of() {
 
 # Whether a build without FAST_CHECK packs what ./fast-check-build makes, as proved. A script stands for ./fast-check-build.
 packs_proved() {
-  local out=$second/crates/fast_check_cli/out
-  printf '#!/bin/sh\n[ "$*" = fast_check_cli ] && mkdir -p "%s" && cp "%s" "%s/fast_check_cli"\n' "$out" "$program" "$out" > "$second/fast-check-build"
+  printf '#!/bin/sh\ncase $* in fast_check_cli) made="%s" ;; fast_check_source) made="%s" ;; *) exit 1 ;; esac\nmkdir -p "%s/$1/out" && cp "$made" "%s/$1/out/$1"\n' \
+    "$program" "$source_program" "$second/crates" "$second/crates" > "$second/fast-check-build"
   chmod +x "$second/fast-check-build"
   "$second/tools/debian/build.sh" "$made/proved" && [ "$(field_of "$made/proved" Version)" = "$(< "$top/VERSION")" ] &&
-    [[ $(field_of "$made/proved" Description) == *"Every function of the program is proved"* ]]
+    [[ $(field_of "$made/proved" Description) == *"Every function of the programs is proved"* ]]
 }
 
 # Whether FAST_CHECK may name the same program, as long as no source is newer.
 packs_proved_by_name() {
   local own=$second/crates/fast_check_cli/out/fast_check_cli
+  local -x FAST_CHECK_SOURCE=$second/crates/fast_check_source/out/fast_check_source
   FAST_CHECK=$own "$second/tools/debian/build.sh" "$made/named" && [ "$(field_of "$made/named" Version)" = "$(< "$top/VERSION")" ] &&
     mkdir "$second/crates/fast_check_cli/src" && touch -d tomorrow "$second/crates/fast_check_cli/src/main.rt" &&
     FAST_CHECK=$own ends_with 0 "~unproved" "$second/tools/debian/build.sh" "$made/older"
@@ -86,7 +90,8 @@ fails_without_program() {
 changelog_is_right() {
   local changelog hash
   changelog=$(zcat "$made/root/usr/share/doc/nagdrez/changelog.gz")
-  for hash in "$(git -C "$copy" rev-parse HEAD)." "$(sha256sum "$made/root/usr/lib/nagdrez/fast-check")" "$(sha256sum "$program")"; do
+  local lib="$made/root/usr/lib/nagdrez"
+  for hash in "$(git -C "$copy" rev-parse HEAD)." "$(sha256sum "$lib/fast-check")" "$(sha256sum "$program")" "$(sha256sum "$lib/fast-check-source")" "$(sha256sum "$source_program")"; do
     [[ $changelog == *"${hash%% *}"* ]] || { echo "$hash is not in: $changelog"; return 1; }
   done
 }
@@ -188,6 +193,12 @@ for words in "check examples/package" "check --format junit examples/package $pa
   # shellcheck disable=SC2086
   test_that "$words" answers_alike $words
 done
+# Whether the package reads TypeScript without a compiler.
+reads_without_compiler() {
+  TYPESCRIPT=/nowhere ends_with 0 "3 files, 3 public modules, 0 messages" within fast-check-ts check --reader source --no-cache "$package/workspace" &&
+    ends_with 1 "missing-explicit-return-type" within /usr/lib/nagdrez/fast-check-source examples/package
+}
+test_that "it reads without a compiler" reads_without_compiler
 test_that "fast-check answers" cmp "$top/examples/first.answer.json" <(within fast-check transform /usr/share/doc/nagdrez/examples/first.json)
 test_that "fast-check refuses" ends_with 2 "usage: fast-check (build|transform|pair) FILE" within fast-check check
 for name in fast-check fast-check-ts; do

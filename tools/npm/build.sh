@@ -3,15 +3,14 @@
 #
 #   tools/npm/build.sh [FOLDER]
 #
-# It is FOLDER/nagdrez-VERSION.tgz; FOLDER is tools/npm/out where none is given. The program is that of the variable FAST_CHECK, else the proved one, which
-# ./fast-check-build proves and builds first. A program that was not proved here makes a version that ends with `-unproved`. Needs npm, node and binutils; no
-# network.
+# It is FOLDER/nagdrez-VERSION.tgz; FOLDER is tools/npm/out where none is given. The programs are those of the variables FAST_CHECK and FAST_CHECK_SOURCE, else the
+# proved ones, which ./fast-check-build proves and builds first. A program that was not proved here makes a version that ends with `-unproved`. Needs npm, node and
+# binutils; no network.
 set -eu
 umask 022
 here=$(cd "$(dirname "$(readlink -f "${BASH_SOURCE[0]}")")" && pwd)
 top=$(cd "$here/../.." && pwd)
-built="$top/crates/fast_check_cli/out/fast_check_cli"
-version=$(< "$top/VERSION")
+suffix=
 
 fail() {
   echo "build.sh: $2" >&2
@@ -21,14 +20,24 @@ fail() {
 for tool in npm node strip sha256sum; do
   command -v "$tool" > /dev/null || fail 5 "$tool is not there; on Debian: apt-get install -y npm nodejs binutils"
 done
-program=${FAST_CHECK-}
-if [ -z "$program" ]; then
-  program=$built
-  "$top/fast-check-build" fast_check_cli >&2 || fail 5 "the program is not built"
-elif [[ ! $program -ef $built || -n $(find "$top/crates.txt" "$top"/crates/*/{src,specs,proofs} -newer "$built" -print -quit 2> /dev/null) ]]; then
-  version+=-unproved
-fi
-[[ -f $program && -x $program ]] || fail 5 "there is no program $program"
+# Finds the program of a crate: the one that is named, else the proved one.
+find_program() {
+  local crate=$1 built="$top/crates/$1/out/$1"
+  program=$2
+  if [ -z "$program" ]; then
+    program=$built
+    "$top/fast-check-build" "$crate" >&2 || fail 5 "the program is not built"
+  elif [[ ! $program -ef $built || -n $(find "$top/crates.txt" "$top"/crates/*/{src,specs,proofs} -newer "$built" -print -quit 2> /dev/null) ]]; then
+    suffix=-unproved
+  fi
+  [[ -f $program && -x $program ]] || fail 5 "there is no program $program"
+}
+
+# Puts the program that was found into the package.
+add_program() {
+  install -m 755 "$program" "$made/bin/$1"
+  strip --remove-section=.comment --remove-section=.note "$made/bin/$1"
+}
 
 folder=${1:-$here/out}
 mkdir -p "$folder"
@@ -39,9 +48,10 @@ cp -r "$top/tools/typescript/src" "$made/src"
 cp -r "$top/docs/errors" "$made/errors"
 cp -r "$top/tools/schemas" "$made/schemas"
 install -m 755 "$top/tools/typescript/bin/fast-check-ts.js" "$made/bin/nagdrez.js"
-install -m 755 "$program" "$made/bin/fast-check"
-strip --remove-section=.comment --remove-section=.note "$made/bin/fast-check"
-(cd "$made" && sha256sum bin/fast-check > SHA256)
+find_program fast_check_cli "${FAST_CHECK-}" && add_program fast-check
+find_program fast_check_source "${FAST_CHECK_SOURCE-}" && add_program fast-check-source
+version=$(< "$top/VERSION")$suffix
+(cd "$made" && sha256sum bin/fast-check bin/fast-check-source > SHA256)
 install -m 644 "$top/LICENSE" "$top/CHANGELOG.md" "$here/README.md" "$made"
 node "$here/manifest.js" "$top/tools/typescript/package.json" "$version" > "$made/package.json"
 # The types of the package are made by the package's own command.

@@ -5,17 +5,19 @@
 #   tools/npm/test.sh            in a folder of this machine
 #   tools/npm/test.sh --fresh    and in a new Debian 12, which debootstrap fetches, by the steps of examples/ci/Dockerfile: some minutes, as root
 #
-# The program is that of the variable FAST_CHECK, else the proved one of this repository, else the one that tools/unproved compiles. The compiler is that of the
-# variable TYPESCRIPT, else Debian's. Needs npm.
+# The programs are those of the variables FAST_CHECK and FAST_CHECK_SOURCE, else the proved ones of this repository, else those that tools/unproved compiles. The
+# compiler is that of the variable TYPESCRIPT, else Debian's. Needs npm.
 set -u
 export LC_ALL=C
 here=$(cd "$(dirname "$(readlink -f "${BASH_SOURCE[0]}")")" && pwd)
 top=$(cd "$here/../.." && pwd)
 program=${FAST_CHECK:-$top/crates/fast_check_cli/out/fast_check_cli}
 [ -x "$program" ] || program=$("$top/tools/unproved") || exit 5
+source_program=${FAST_CHECK_SOURCE:-$top/crates/fast_check_source/out/fast_check_source}
+[ -x "$source_program" ] || source_program=$("$top/tools/unproved" --source) || exit 5
 command -v npm > /dev/null || { echo "test.sh: npm is not there; on Debian: apt-get install -y npm" >&2; exit 5; }
 compiler=${TYPESCRIPT:-/usr/share/nodejs/typescript}
-unset TYPESCRIPT FAST_CHECK
+unset TYPESCRIPT FAST_CHECK FAST_CHECK_SOURCE
 made=$(mktemp -d)
 export XDG_CACHE_HOME="$made/cache" npm_config_cache="$made/npm" npm_config_update_notifier=false
 trap 'rm -rf "$made"' EXIT
@@ -43,7 +45,7 @@ ends_with() {
 }
 
 builds() {
-  FAST_CHECK=$program "$here/build.sh" "$made" && mv "$made"/nagdrez-*.tgz "$made/nagdrez.tgz"
+  FAST_CHECK=$program FAST_CHECK_SOURCE=$source_program "$here/build.sh" "$made" && mv "$made"/nagdrez-*.tgz "$made/nagdrez.tgz"
 }
 
 installs() {
@@ -94,6 +96,11 @@ is_complete() {
   (cd node_modules/nagdrez && sha256sum -c SHA256) && [ -s node_modules/nagdrez/LICENSE ] && [ -s node_modules/nagdrez/CHANGELOG.md ] &&
     ! { npx nagdrez --help; for name in check fix skeleton input diff report lsp serve; do npx nagdrez help $name; done; } | grep -E 'fast-check-ts|\./fast-check|--unproved|docs/' &&
     ! grep -nE '\]\((docs|\.\.)/' node_modules/nagdrez/README.md
+}
+
+# Whether it reads a clean package by its own program alone.
+reads_without_compiler() {
+  TYPESCRIPT=/nowhere ends_with 0 "0 messages" npx nagdrez check --reader source --no-cache --no-own-compiler .
 }
 
 says_its_platform() {
@@ -158,6 +165,7 @@ test_that "a program imports it" is_imported
 test_that "its types serve" is_typed
 test_that "it passes its own check" passes_its_own_check
 test_that "it is complete" is_complete
+test_that "it reads without a compiler" reads_without_compiler
 test_that "another platform is told" says_its_platform
 test_that "it speaks to editors" speaks_to_editors
 test_that "the examples for CI run" ci_examples_run

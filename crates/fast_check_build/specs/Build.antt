@@ -1,15 +1,17 @@
 -- What a build answers, and what a cache has then.
-use Rattle.std.specs.Prelude.{◌≡◌, ◌⊎◌, ℕ, Bool, List, Option, take}
+use Rattle.std.specs.Prelude.{◌≡◌, ◌⊎◌, ℕ, Bool, List, Option, Result, Vec, take, MatchResult}
 use Rattle.std.specs.BTreeMap.{BTreeMap, IsOrdered}
+use Rattle.std.specs.declared.alloc.Global.{Global}
 use Rattle.fast_check_tables_packages.specs.Package.{Nv}
 use Rattle.fast_check_tables_packages.specs.declared.package.PackageNv.{PackageNv}
 use Rattle.fast_check_tables_packages.specs.declared.fault.BuildFault.{BuildFault}
 use Rattle.fast_check_tables_packages.specs.declared.fault.BuildFault.TheVariants.{OutOfMemory}
 use Rattle.fast_check_tables_cache.specs.Cache.{ItemView}
+use Rattle.fast_check_tables_cache.specs.CachedPackages.{used_item}
 use Rattle.fast_check_tables_cache.specs.declared.package_ranges.PackagePublicRanges.{PackagePublicRanges}
 use Rattle.fast_check_build_answers.specs.PackageAnswer.{Answer}
 use Rattle.fast_check_build_answers.specs.Answered.{by_nv, AreAnswered, sets}
-use Rattle.fast_check_finder_loop.specs.demands.facts.GraphFacts.{Known}
+use Rattle.fast_check_finder_loop.specs.demands.facts.GraphFacts.{Known, with_used}
 use Rattle.fast_check_finder_loop.specs.Refusals.{IsRefusal}
 use Rattle.fast_check_build.specs.Found.{IsFound}
 
@@ -42,3 +44,13 @@ abbrev pub IsStopped : Known → List Nv → Bool → (Nv → List (List ℕ) �
     (ℕ → Option ItemView) → BuildFault → Type 0
 IsStopped k roots first key old new fault =
     (IsRefusal k roots fault × (new ≡ old)) ⊎ ((fault ≡ OutOfMemory) × IsCutShort k roots first key old new)
+
+-- a build answers, or is refused
+abbrev pub Builds : Known → List Nv → Bool → Result (Vec Answer Global) BuildFault → Type 0
+Builds k roots first result = MatchResult result (λ answers. IsBuilt k roots first answers.items) (IsRefusal k roots)
+
+-- a build to which a cache is lent answers by the items that the cache has, or stops
+abbrev pub BuildsWith : Known → List Nv → Bool → (Nv → List (List ℕ) → ℕ) → (ℕ → Option ItemView) → (ℕ → Option ItemView) →
+    Result (Vec Answer Global) BuildFault → Type 0
+BuildsWith k roots first key old new result = let lent = with_used (used_item key old k.graph) k in
+    MatchResult result (λ answers. IsBuiltWith lent roots first key old new answers.items) (IsStopped lent roots first key old new)

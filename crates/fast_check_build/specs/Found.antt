@@ -1,10 +1,11 @@
 -- What is found of packages that are handed in.
-use Rattle.std.specs.Prelude.{◌≡◌, true, List, Option, IfSome}
+use Rattle.std.specs.Prelude.{◌≡◌, true, List, Option, Result, IfSome, MatchResult}
 use Rattle.std.specs.List.{Contains}
 use Rattle.std.specs.BTreeMap.{BTreeMap}
 use Rattle.fast_check_tree_syntax.specs.declared.source.SourceRange.{SourceRange}
 use Rattle.fast_check_tables_packages.specs.Package.{Nv}
 use Rattle.fast_check_tables_packages.specs.declared.package.PackageNv.{PackageNv}
+use Rattle.fast_check_tables_packages.specs.declared.fault.BuildFault.{BuildFault}
 use Rattle.url.specs.Parts.{Parts}
 use Rattle.fast_check_tables_packages.specs.declared.package.WorkspaceMember.{WorkspaceMember}
 use Rattle.fast_check_tables_graph.specs.declared.graph.ModuleGraph.{ModuleGraph}
@@ -19,7 +20,7 @@ use Rattle.fast_check_finder_loop.specs.Account.{Account, IsAccount, IsYield}
 use Rattle.fast_check_finder_loop.specs.Rules.{followers}
 use Rattle.fast_check_finder_loop.specs.Yields.{demand_yields}
 use Rattle.fast_check_finder_loop.specs.Own.{IsOwnRange}
-use Rattle.fast_check_finder_loop.specs.Refusals.{JoinAll}
+use Rattle.fast_check_finder_loop.specs.Refusals.{JoinAll, IsRefusal}
 
 -- what is known of modules and packages, where a provider is lent, and no cache
 abbrev pub known_of : ModuleGraph → RootSymbol → List WorkspaceMember → (Nv → Parts) → (Text → Option Nv) → Known
@@ -49,3 +50,7 @@ pub record IsFound (k : Known) (roots : List Nv) (answers : BTreeMap PackageNv P
   pub says : AreAnswers yields answers
   pub packages : (nv : Nv) → IfSome (lookup_package nv answers.entries) (λ p. Contains account (of_package nv))
   pub own : (nv : Nv) (t : Text) → IfSome (module_answer answers nv t) (OwnsRanges k.root_symbol t)
+
+-- a search answers what is found, or is refused
+abbrev pub Finds : Known → List Nv → Result (BTreeMap PackageNv PackagePublicRanges) BuildFault → Type 0
+Finds k roots result = MatchResult result (IsFound k roots) (IsRefusal k roots)

@@ -1,10 +1,9 @@
 //! What is public in packages.
 
-ghost use Rattle.std.specs.Prelude.{◌≡◌, ⊤, map, MatchOption, IfOk, IfErr};
+ghost use Rattle.std.specs.Prelude.{◌≡◌, ⊤, map, MatchOption};
 ghost use Rattle.fast_check_tables_packages.specs.Package.{nv_of};
 ghost use Rattle.fast_check_finder_loop.specs.Lent.{with_cache};
-ghost use Rattle.fast_check_finder_loop.specs.Refusals.{IsRefusal};
-ghost use Rattle.fast_check_build.specs.Found.{known_of, IsFound};
+ghost use Rattle.fast_check_build.specs.Found.{known_of, Finds};
 
 use fast_check_finder_loop::{FinderOptions, GraphFacts, find_all};
 use fast_check_finder_ranges::package_ranges;
@@ -41,12 +40,8 @@ pub fn find_public_ranges<'a>(
     workspace_members: &'a [WorkspaceMember],
     pending_nvs: VecDeque<PackageNv>,
 ) -> Result<BTreeMap<PackageNv, PackagePublicRanges>, BuildFault>
-    ensures found { let k = known_of graph.now root_symbol.now workspace_members.now (url_of jsr_url_provider.now) (nv_at jsr_url_provider.now) in
-        let lent = with_cache cache.entry (λ c. hash_of c.now (seed_text c.now)) (λ c. stored c.now) k in
-        IfOk result (IsFound lent (map nv_of pending_nvs.items)) }
-    ensures refused { let k = known_of graph.now root_symbol.now workspace_members.now (url_of jsr_url_provider.now) (nv_at jsr_url_provider.now) in
-        let lent = with_cache cache.entry (λ c. hash_of c.now (seed_text c.now)) (λ c. stored c.now) k in
-        IfErr result (IsRefusal lent (map nv_of pending_nvs.items)) }
+    ensures { let k = known_of graph.now root_symbol.now workspace_members.now (url_of jsr_url_provider.now) (nv_at jsr_url_provider.now) in
+        Finds (with_cache cache.entry (λ c. hash_of c.now (seed_text c.now)) (λ c. stored c.now) k) (map nv_of pending_nvs.items) result }
 {
     let seed = seed_of(cache);
     let members = IndexedMembers::new(alloc, workspace_members)?;
@@ -109,14 +104,9 @@ impl<'a> PublicRangeFinder<'a> {
         cache: Option<&dyn FastCheckCache>,
         jsr_url_provider: &dyn JsrUrlProvider,
     ) -> Result<BTreeMap<PackageNv, PackagePublicRanges>, BuildFault>
-        ensures found { let f = finder_of self.entry in
+        ensures { let f = finder_of self.entry in
             let k = known_of f.graph f.root_symbol f.workspace_members (url_of jsr_url_provider.now) (nv_at jsr_url_provider.now) in
-            let lent = with_cache cache.entry (λ c. hash_of c.now (seed_text c.now)) (λ c. stored c.now) k in
-            IfOk result (IsFound lent (map nv_of f.pending_nvs)) }
-        ensures refused { let f = finder_of self.entry in
-            let k = known_of f.graph f.root_symbol f.workspace_members (url_of jsr_url_provider.now) (nv_at jsr_url_provider.now) in
-            let lent = with_cache cache.entry (λ c. hash_of c.now (seed_text c.now)) (λ c. stored c.now) k in
-            IfErr result (IsRefusal lent (map nv_of f.pending_nvs)) }
+            Finds (with_cache cache.entry (λ c. hash_of c.now (seed_text c.now)) (λ c. stored c.now) k) (map nv_of f.pending_nvs) result }
     {
         let PublicRangeFinder {
             graph,

@@ -1,11 +1,9 @@
 //! The skeletons of packages, or what is wrong with them: `build_fast_check_type_graph`.
-ghost use Rattle.std.specs.Prelude.{◌≡◌, ⊤, map, MatchOption, IfOk, IfErr};
+ghost use Rattle.std.specs.Prelude.{⊤, map, MatchOption};
 ghost use Rattle.fast_check_tables_packages.specs.Package.{nv_of};
-ghost use Rattle.fast_check_tables_cache.specs.CachedPackages.{used_item};
-ghost use Rattle.fast_check_finder_loop.specs.demands.facts.GraphFacts.{with_used};
-ghost use Rattle.fast_check_finder_loop.specs.Refusals.{IsRefusal};
+ghost use Rattle.fast_check_build_answers.specs.Input.{first_alone, KeepsKeys};
 ghost use Rattle.fast_check_build.specs.Found.{known_of};
-ghost use Rattle.fast_check_build.specs.Build.{IsBuilt, IsBuiltWith, IsStopped};
+ghost use Rattle.fast_check_build.specs.Build.{Builds, BuildsWith};
 ghost use Rattle.fast_check_build.specs.Lent.{OldNew};
 
 use crate::finder::find_public_ranges;
@@ -25,18 +23,10 @@ fn build_with(
     input: BuildInput<'_>,
     pending_nvs: VecDeque<PackageNv>,
 ) -> Result<Vec<ModuleAnswer>, BuildFault>
-    ensures built { let i = input.entry in
+    ensures built { let i = input.entry in let key = hash_of cache.old (seed_text cache.old) in
         let k = known_of i.graph.now i.root_symbol.now i.options.now.workspace_members.items (url_of jsr_url_provider.now) (nv_at jsr_url_provider.now) in
-        IfOk result (λ answers.
-        IsBuiltWith (with_used (used_item (hash_of cache.old (seed_text cache.old)) (stored cache.old) i.graph.now) k) (map nv_of pending_nvs.items)
-        i.options.now.should_error_on_first_diagnostic (hash_of cache.old (seed_text cache.old)) (stored cache.old) (stored cache.new) answers.items) }
-    ensures stopped { let i = input.entry in
-        let k = known_of i.graph.now i.root_symbol.now i.options.now.workspace_members.items (url_of jsr_url_provider.now) (nv_at jsr_url_provider.now) in
-        IfErr result (λ fault.
-        IsStopped (with_used (used_item (hash_of cache.old (seed_text cache.old)) (stored cache.old) i.graph.now) k) (map nv_of pending_nvs.items)
-        i.options.now.should_error_on_first_diagnostic (hash_of cache.old (seed_text cache.old)) (stored cache.old) (stored cache.new) fault) }
-    ensures seed { seed_text cache.new ≡ seed_text cache.old }
-    ensures hash { hash_of cache.new ≡ hash_of cache.old }
+        BuildsWith k (map nv_of pending_nvs.items) (first_alone i) key (stored cache.old) (stored cache.new) result }
+    ensures keys { KeepsKeys (seed_text cache.old) (seed_text cache.new) (hash_of cache.old) (hash_of cache.new) }
 {
     let ranges = find_public_ranges(
         alloc,
@@ -61,12 +51,9 @@ fn build_without(
     input: BuildInput<'_>,
     pending_nvs: VecDeque<PackageNv>,
 ) -> Result<Vec<ModuleAnswer>, BuildFault>
-    ensures built { let i = input.entry in
+    ensures { let i = input.entry in
         let k = known_of i.graph.now i.root_symbol.now i.options.now.workspace_members.items (url_of jsr_url_provider.now) (nv_at jsr_url_provider.now) in
-        IfOk result (λ answers. IsBuilt k (map nv_of pending_nvs.items) i.options.now.should_error_on_first_diagnostic answers.items) }
-    ensures refused { let i = input.entry in
-        let k = known_of i.graph.now i.root_symbol.now i.options.now.workspace_members.items (url_of jsr_url_provider.now) (nv_at jsr_url_provider.now) in
-        IfErr result (IsRefusal k (map nv_of pending_nvs.items)) }
+        Builds k (map nv_of pending_nvs.items) (first_alone i) result }
 {
     let members = input.options.workspace_members.as_slice();
     let ranges = find_public_ranges(
@@ -105,23 +92,13 @@ pub fn build_fast_check_type_graph(
     options: &TransformOptions,
 ) -> Result<Vec<ModuleAnswer>, BuildFault>
     ensures built { let k = known_of graph.now root_symbol.now options.now.workspace_members.items (url_of jsr_url_provider.now) (nv_at jsr_url_provider.now) in
-        MatchOption cache.entry (IfOk result (λ answers.
-        IsBuilt k (map nv_of pending_nvs.items) options.now.should_error_on_first_diagnostic answers.items)) (λ _. ⊤) }
-    ensures refused { let k = known_of graph.now root_symbol.now options.now.workspace_members.items (url_of jsr_url_provider.now)
-        (nv_at jsr_url_provider.now) in
-        MatchOption cache.entry (IfErr result (IsRefusal k (map nv_of pending_nvs.items))) (λ _. ⊤) }
+        MatchOption cache.entry (Builds k (map nv_of pending_nvs.items) options.now.should_error_on_first_diagnostic result) (λ _. ⊤) }
     ensures built_with { let k = known_of graph.now root_symbol.now options.now.workspace_members.items (url_of jsr_url_provider.now) (nv_at jsr_url_provider.now) in
-        OldNew (λ old new. IfOk result (λ answers.
-        IsBuiltWith (with_used (used_item (hash_of old (seed_text old)) (stored old) graph.now) k) (map nv_of pending_nvs.items)
-        options.now.should_error_on_first_diagnostic (hash_of old (seed_text old)) (stored old) (stored new) answers.items)) cache.entry cache.exit }
-    ensures stopped { let k = known_of graph.now root_symbol.now options.now.workspace_members.items (url_of jsr_url_provider.now) (nv_at jsr_url_provider.now) in
-        OldNew (λ old new. IfErr result (λ fault.
-        IsStopped (with_used (used_item (hash_of old (seed_text old)) (stored old) graph.now) k) (map nv_of pending_nvs.items)
-        options.now.should_error_on_first_diagnostic (hash_of old (seed_text old)) (stored old) (stored new) fault)) cache.entry cache.exit }
+        OldNew (λ old new. BuildsWith k (map nv_of pending_nvs.items) options.now.should_error_on_first_diagnostic
+        (hash_of old (seed_text old)) (stored old) (stored new) result) cache.entry cache.exit }
 
     // The cache has the seed and the hash that it had.
-    ensures seed { OldNew (λ old new. seed_text new ≡ seed_text old) cache.entry cache.exit }
-    ensures hash { OldNew (λ old new. hash_of new ≡ hash_of old) cache.entry cache.exit }
+    ensures keys { OldNew (λ old new. KeepsKeys (seed_text old) (seed_text new) (hash_of old) (hash_of new)) cache.entry cache.exit }
 {
     let input = BuildInput {
         graph,

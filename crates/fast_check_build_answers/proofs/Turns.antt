@@ -26,6 +26,7 @@ use Rattle.fast_check_transform_module.specs.Transform.{skeleton, sources, comme
 use Rattle.fast_check_transform_module.specs.transform_faults.Diagnostics.{AreDiagnosticsOf, diagnosed}
 use Rattle.fast_check_build_answers.specs.PackageFaults.{PublicModule, PackageFault, transform_fault, found, Diagnoses, found_or, faults_in_tree}
 use Rattle.fast_check_build_answers.specs.PackageFaults.{first_list, module_faults, package_faults, sound_front}
+use Rattle.fast_check_build_answers.specs.ModuleAnswer.{IsModuleAnswer}
 use Rattle.fast_check_build_answers.specs.PackageAnswer.{Answer, TreeModule, IsShown, ShowsMore, with_tree, tree_modules, IsSkeletonOf}
 use Rattle.fast_check_build_answers.specs.PackageAnswer.{IsRefused, IsFoundAnswer, IsUsedAnswer, IsPackageAnswer, OwnsPublic, OwnsModule}
 use Rattle.fast_check_build_answers.specs.PackageAnswer.{OwnsAll}
@@ -153,16 +154,17 @@ found_none [] rs e = refl
 found_none (d ∷ ds) rs e = cc
 
 -- what is wrong with a module of which the finder found nothing
-pub diagnosed_rest : (first : Bool) (graph : ModuleGraph) (root : RootSymbol) (m : PublicModule) (left : PublicRanges) (r : Answered) →
-    left ≡ m.1 →
-    m.1.diagnostics ≡ [] → IfOk r (λ w. AllZip Diagnoses (faults_in_tree first graph left (found_module root m.0)) w.items) →
-    IfOk r (λ w. AllZip Diagnoses (module_faults first graph root m) w.items)
-diagnosed_rest first graph root m left r same none h =
+pub answered_rest : (first : Bool) (graph : ModuleGraph) (root : RootSymbol) (m : PublicModule) (left : PublicRanges) (old new : List Answer)
+    (r : Answered) →
+    left ≡ m.1 → m.1.diagnostics ≡ [] →
+    IfOk r (λ w. IsModuleAnswer graph (faults_in_tree first graph left (found_module root m.0)) (with_tree (m.0, left) (found_module root m.0)) w.items old new) →
+    IfOk r (λ w. IsModuleAnswer graph (module_faults first graph root m) (with_tree m (found_module root m.0)) w.items old new)
+answered_rest first graph root m left old new r same none h =
     let o = found_module root m.0 in
-    let P : List PackageFault → Type 0 = λ rs. IfOk r (λ w. AllZip Diagnoses rs w.items) in
-    let at : P (faults_in_tree first graph m.1 o) =
-    subst (λ (public : PublicRanges). P (faults_in_tree first graph public o)) same h in
-    subst P (found_none m.1.diagnostics (faults_in_tree first graph m.1 o) none) at
+    let P : List PackageFault → PublicRanges → Type 0 = λ rs public. IfOk r (λ w. IsModuleAnswer graph rs (with_tree (m.0, public) o) w.items old new) in
+    let at : P (faults_in_tree first graph m.1 o) m.1 =
+    subst (λ (public : PublicRanges). P (faults_in_tree first graph public o) public) same h in
+    subst (λ (rs : List PackageFault). P rs m.1) (found_none m.1.diagnostics (faults_in_tree first graph m.1 o) none) at
 
 -- ---- one module more
 
@@ -229,21 +231,13 @@ shows_tree graph m (Ok x) made old new e p g k d is =
     shows_one graph m old new (m.specifier, Ok made) is (refl, subst (IsSkeletonOf graph m) same one)
 
 -- a module that was found
-pub shows_found : (graph : ModuleGraph) (m : PublicModule) (info : EsModule) (o : Option AnyModuleInfo) (old new : List Answer)
+pub answered_found : (first : Bool) (graph : ModuleGraph) (m : PublicModule) (info : EsModule) (o : Option AnyModuleInfo) (old new : List Answer)
     (r : Answered) →
-    Some (Esm info) ≡ o → IfOk r (λ w. w.items ≡ [] → ShowsMore graph (with_tree m (Some (Esm info))) old new) →
-    IfOk r (λ w. w.items ≡ [] → ShowsMore graph (with_tree m o) old new)
-shows_found graph m info o old new r e h =
-    subst (λ (x : Option AnyModuleInfo). IfOk r (λ w. w.items ≡ [] → ShowsMore graph (with_tree m x) old new)) e h
-
--- and one of which the finder found nothing
-pub shows_rest : (graph : ModuleGraph) (root : RootSymbol) (m : PublicModule) (left : PublicRanges) (old new : List Answer) (r : Answered) →
-    left ≡ m.1 →
-    IfOk r (λ w. w.items ≡ [] → ShowsMore graph (with_tree (m.0, left) (found_module root m.0)) old new) →
-    IfOk r (λ w. w.items ≡ [] → ShowsMore graph (with_tree m (found_module root m.0)) old new)
-shows_rest graph root m left old new r e h =
-    subst (λ (public : PublicRanges). IfOk r
-    (λ w. w.items ≡ [] → ShowsMore graph (with_tree (m.0, public) (found_module root m.0)) old new)) e h
+    Some (Esm info) ≡ o →
+    IfOk r (λ w. IsModuleAnswer graph (faults_in_tree first graph m.1 (Some (Esm info))) (with_tree m (Some (Esm info))) w.items old new) →
+    IfOk r (λ w. IsModuleAnswer graph (faults_in_tree first graph m.1 o) (with_tree m o) w.items old new)
+answered_found first graph m info o old new r e h =
+    subst (λ (x : Option AnyModuleInfo). IfOk r (λ w. IsModuleAnswer graph (faults_in_tree first graph m.1 x) (with_tree m x) w.items old new)) e h
 
 -- the modules with a tree of some modules, and of one more
 trees_more : (root : RootSymbol) (ms : List PublicModule) (m : PublicModule) →

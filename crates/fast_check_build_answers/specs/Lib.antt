@@ -1,5 +1,7 @@
+pub mod Input
 pub mod PackageFaults
 pub mod PackageAnswer
+pub mod ModuleAnswer
 pub mod Kept
 pub mod KeptAnswers
 pub mod Answered

@@ -1,9 +1,11 @@
 //! The answer of a package by its public ranges: skeletons or diagnostics.
-ghost use Rattle.std.specs.Prelude.{◌≡◌, ◌≢◌, ◌==◌, ◌&&◌, not, [], ◌∷◌, ◌++◌, length, take, IfOk, OnOk};
+ghost use Rattle.std.specs.Prelude.{◌≡◌, ◌≢◌, ◌==◌, ◌&&◌, not, [], ◌++◌, length, take, IfOk, OnOk};
 ghost use Rattle.std.specs.List.{AllZip};
 ghost use Rattle.fast_check_tables_modules.specs.EsModule.{AreOwnRanges};
 ghost use Rattle.fast_check_tables_graph.specs.Root.{found_module};
-ghost use Rattle.fast_check_build_answers.specs.PackageFaults.{Diagnoses, faults_in_tree, module_faults, package_faults, sound_front};
+ghost use Rattle.fast_check_build_answers.specs.Input.{first_alone};
+ghost use Rattle.fast_check_build_answers.specs.ModuleAnswer.{IsModuleAnswer};
+ghost use Rattle.fast_check_build_answers.specs.PackageFaults.{PublicModule, Diagnoses, faults_in_tree, module_faults, package_faults, sound_front};
 ghost use Rattle.fast_check_build_answers.specs.PackageAnswer.{ShowsMore, with_tree, tree_modules, OwnsModule, OwnsAll};
 ghost use Rattle.fast_check_build_answers.specs.PackageAnswer.{IsRefused, IsFoundAnswer, IsPackageAnswer};
 
@@ -36,12 +38,9 @@ fn answer_tree(
     answers: &mut Vec<ModuleAnswer>,
 ) -> Result<Vec<FastCheckDiagnostic>, AllocError>
     requires { AreOwnRanges es_module_info.now.tables public_ranges.now }
-    ensures faults { let i = input.entry in IfOk result (λ diagnostics. AllZip Diagnoses
-        (faults_in_tree i.options.now.should_error_on_first_diagnostic i.graph.now public_ranges.now (Some (AnyModuleInfo.Esm es_module_info.now)))
-        diagnostics.items) }
-    ensures shown { let i = input.entry in IfOk result (λ diagnostics. diagnostics.items ≡ [] → ShowsMore i.graph.now
-        (with_tree (specifier, public_ranges.now) (Some (AnyModuleInfo.Esm es_module_info.now))) answers.old.items answers.new.items) }
-    ensures stay { OnOk result (take (length answers.old.items) answers.new.items ≡ answers.old.items) }
+    ensures { let i = input.entry in let m = Some (AnyModuleInfo.Esm es_module_info.now) in IfOk result (λ diagnostics. IsModuleAnswer i.graph.now
+        (faults_in_tree (first_alone i) i.graph.now public_ranges.now m) (with_tree (specifier, public_ranges.now) m)
+        diagnostics.items answers.old.items answers.new.items) }
 {
     es_module_info.own_ranges_are_admitted();
     match transform(
@@ -69,12 +68,9 @@ fn answer_if_tree(
     answers: &mut Vec<ModuleAnswer>,
 ) -> Result<Vec<FastCheckDiagnostic>, AllocError>
     requires { OwnsModule input.root_symbol.now (specifier, public_ranges.now) }
-    ensures faults { let i = input.entry in IfOk result (λ diagnostics. AllZip Diagnoses
-        (faults_in_tree i.options.now.should_error_on_first_diagnostic i.graph.now public_ranges.now (found_module i.root_symbol.now specifier))
-        diagnostics.items) }
-    ensures shown { let i = input.entry in IfOk result (λ diagnostics. diagnostics.items ≡ [] → ShowsMore i.graph.now
-        (with_tree (specifier, public_ranges.now) (found_module i.root_symbol.now specifier)) answers.old.items answers.new.items) }
-    ensures stay { OnOk result (take (length answers.old.items) answers.new.items ≡ answers.old.items) }
+    ensures { let i = input.entry in let m = found_module i.root_symbol.now specifier in IfOk result (λ diagnostics. IsModuleAnswer i.graph.now
+        (faults_in_tree (first_alone i) i.graph.now public_ranges.now m) (with_tree (specifier, public_ranges.now) m)
+        diagnostics.items answers.old.items answers.new.items) }
 {
     match input.root_symbol.module_from_specifier(&specifier) {
         Some(AnyModuleInfo::Esm(info)) => answer_tree(
@@ -100,11 +96,9 @@ fn answer_module(
     answers: &mut Vec<ModuleAnswer>,
 ) -> Result<Vec<FastCheckDiagnostic>, AllocError>
     requires { OwnsModule input.root_symbol.now (specifier, public_ranges) }
-    ensures faults { let i = input.entry in IfOk result (λ diagnostics. AllZip Diagnoses
-        (module_faults i.options.now.should_error_on_first_diagnostic i.graph.now i.root_symbol.now (specifier, public_ranges)) diagnostics.items) }
-    ensures shown { let i = input.entry in IfOk result (λ diagnostics. diagnostics.items ≡ [] → ShowsMore i.graph.now
-        (with_tree (specifier, public_ranges) (found_module i.root_symbol.now specifier)) answers.old.items answers.new.items) }
-    ensures stay { OnOk result (take (length answers.old.items) answers.new.items ≡ answers.old.items) }
+    ensures { let i = input.entry in let m : PublicModule = (specifier, public_ranges) in IfOk result (λ diagnostics. IsModuleAnswer i.graph.now
+        (module_faults (first_alone i) i.graph.now i.root_symbol.now m) (with_tree m (found_module i.root_symbol.now specifier))
+        diagnostics.items answers.old.items answers.new.items) }
 {
     let found = public_ranges.take_diagnostics();
     if found.is_empty() {
@@ -148,11 +142,10 @@ pub(crate) fn answer_modules(
     answers: &mut Vec<ModuleAnswer>,
 ) -> Result<Vec<FastCheckDiagnostic>, AllocError>
     requires { OwnsAll input.root_symbol.now module_ranges.entries }
-    ensures faults { let i = input.entry in IfOk result (λ diagnostics. AllZip Diagnoses
-        (package_faults i.options.now.should_error_on_first_diagnostic i.graph.now i.root_symbol.now module_ranges.entries) diagnostics.items) }
-    ensures shown { let i = input.entry in OnOk result (ShowsMore i.graph.now
-        (tree_modules i.root_symbol.now (sound_front i.options.now.should_error_on_first_diagnostic i.graph.now i.root_symbol.now module_ranges.entries))
-        answers.old.items answers.new.items) }
+    ensures faults { let i = input.entry in IfOk result (λ diagnostics.
+        AllZip Diagnoses (package_faults (first_alone i) i.graph.now i.root_symbol.now module_ranges.entries) diagnostics.items) }
+    ensures shown { let i = input.entry in let sound = sound_front (first_alone i) i.graph.now i.root_symbol.now module_ranges.entries in
+        OnOk result (ShowsMore i.graph.now (tree_modules i.root_symbol.now sound) answers.old.items answers.new.items) }
 {
     let mut diagnostics = Vec::new(alloc);
     for (specifier, public_ranges) in module_ranges {
@@ -216,8 +209,7 @@ fn answer_found(
     package_ranges: PackagePublicRanges,
 ) -> Result<Vec<ModuleAnswer>, AllocError>
     requires own { OwnsAll input.root_symbol.now package_ranges.module_ranges.entries }
-    ensures { let i = input.entry in IfOk result (λ answers.
-        IsFoundAnswer i.graph.now i.root_symbol.now package_ranges i.options.now.should_error_on_first_diagnostic answers.items) }
+    ensures { let i = input.entry in IfOk result (λ made. IsFoundAnswer i.graph.now i.root_symbol.now package_ranges (first_alone i) made.items) }
 {
     let PackagePublicRanges {
         entrypoints,
@@ -246,8 +238,7 @@ pub fn answer_package(
     package_ranges: PackagePublicRanges,
 ) -> Result<Vec<ModuleAnswer>, AllocError>
     requires own { OwnsAll input.root_symbol.now package_ranges.module_ranges.entries }
-    ensures { let i = input.entry in IfOk result (λ answers.
-        IsPackageAnswer i.graph.now i.root_symbol.now package_ranges i.options.now.should_error_on_first_diagnostic answers.items) }
+    ensures { let i = input.entry in IfOk result (λ made. IsPackageAnswer i.graph.now i.root_symbol.now package_ranges (first_alone i) made.items) }
 {
     if package_ranges.cache_items.is_empty() {
         let answers = answer_found(alloc, input, package_ranges)?;

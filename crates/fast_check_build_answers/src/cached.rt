@@ -3,6 +3,7 @@ ghost use Rattle.std.specs.Prelude.{◌≡◌, map, IfOk, OnOk, OnErr};
 ghost use Rattle.url.specs.Parts.{serialize};
 ghost use Rattle.fast_check_tables_packages.specs.Package.{nv_of};
 ghost use Rattle.fast_check_tables_cache.specs.Cache.{item_of, with_item};
+ghost use Rattle.fast_check_build_answers.specs.Input.{first_alone, KeepsKeys};
 ghost use Rattle.fast_check_build_answers.specs.Kept.{item_for, with_package};
 ghost use Rattle.fast_check_build_answers.specs.PackageAnswer.{IsFoundAnswer, IsPackageAnswer, OwnsAll};
 
@@ -21,10 +22,8 @@ fn answer_and_keep(
     package_ranges: PackagePublicRanges,
 ) -> Result<(Vec<ModuleAnswer>, FastCheckCacheItem), AllocError>
     requires own { OwnsAll input.root_symbol.now package_ranges.module_ranges.entries }
-    ensures answered { let i = input.entry in IfOk result (λ made.
-        IsFoundAnswer i.graph.now i.root_symbol.now package_ranges i.options.now.should_error_on_first_diagnostic made.0.items) }
-    ensures kept { let i = input.entry in IfOk result (λ made.
-        item_of made.1 ≡ item_for i.options.now.should_error_on_first_diagnostic i.graph.now i.root_symbol.now package_ranges) }
+    ensures answered { let i = input.entry in IfOk result (λ made. IsFoundAnswer i.graph.now i.root_symbol.now package_ranges (first_alone i) made.0.items) }
+    ensures kept { let i = input.entry in IfOk result (λ made. item_of made.1 ≡ item_for (first_alone i) i.graph.now i.root_symbol.now package_ranges) }
 {
     let PackagePublicRanges {
         entrypoints,
@@ -53,14 +52,12 @@ fn answer_found_and_set(
     package_ranges: PackagePublicRanges,
 ) -> Result<Vec<ModuleAnswer>, AllocError>
     requires own { OwnsAll input.root_symbol.now package_ranges.module_ranges.entries }
-    ensures answered { let i = input.entry in IfOk result (λ answers.
-        IsFoundAnswer i.graph.now i.root_symbol.now package_ranges i.options.now.should_error_on_first_diagnostic answers.items) }
-    ensures set { let i = input.entry in
-        OnOk result (stored cache.new ≡ with_item (hash_of cache.old seed.now (nv_of nv.now) (map serialize package_ranges.entrypoints.keys))
-        (item_for i.options.now.should_error_on_first_diagnostic i.graph.now i.root_symbol.now package_ranges) (stored cache.old)) }
+    ensures answered { let i = input.entry in IfOk result (λ made. IsFoundAnswer i.graph.now i.root_symbol.now package_ranges (first_alone i) made.items) }
+    ensures set { let i = input.entry in let item = item_for (first_alone i) i.graph.now i.root_symbol.now package_ranges in
+        let key = hash_of cache.old seed.now (nv_of nv.now) (map serialize package_ranges.entrypoints.keys) in
+        OnOk result (stored cache.new ≡ with_item key item (stored cache.old)) }
     ensures err { OnErr result (stored cache.new ≡ stored cache.old) }
-    ensures seed { seed_text cache.new ≡ seed_text cache.old }
-    ensures hash { hash_of cache.new ≡ hash_of cache.old }
+    ensures keys { KeepsKeys (seed_text cache.old) (seed_text cache.new) (hash_of cache.old) (hash_of cache.new) }
 {
     let key = key_of(&*cache, seed, nv, &package_ranges.entrypoints);
     let (answers, item) = answer_and_keep(alloc, input, package_ranges)?;
@@ -82,14 +79,11 @@ pub fn answer_and_set(
     package_ranges: PackagePublicRanges,
 ) -> Result<Vec<ModuleAnswer>, AllocError>
     requires own { OwnsAll input.root_symbol.now package_ranges.module_ranges.entries }
-    ensures answered { let i = input.entry in IfOk result (λ answers.
-        IsPackageAnswer i.graph.now i.root_symbol.now package_ranges i.options.now.should_error_on_first_diagnostic answers.items) }
-    ensures set { let i = input.entry in
-        OnOk result (stored cache.new ≡ with_package (hash_of cache.old seed.now) i.options.now.should_error_on_first_diagnostic
-        i.graph.now i.root_symbol.now (nv_of nv.now) package_ranges (stored cache.old)) }
+    ensures answered { let i = input.entry in IfOk result (λ made. IsPackageAnswer i.graph.now i.root_symbol.now package_ranges (first_alone i) made.items) }
+    ensures set { let i = input.entry in OnOk result (stored cache.new
+        ≡ with_package (hash_of cache.old seed.now) (first_alone i) i.graph.now i.root_symbol.now (nv_of nv.now) package_ranges (stored cache.old)) }
     ensures err { OnErr result (stored cache.new ≡ stored cache.old) }
-    ensures seed { seed_text cache.new ≡ seed_text cache.old }
-    ensures hash { hash_of cache.new ≡ hash_of cache.old }
+    ensures keys { KeepsKeys (seed_text cache.old) (seed_text cache.new) (hash_of cache.old) (hash_of cache.new) }
 {
     if package_ranges.cache_items.is_empty() {
         let answers = answer_found_and_set(alloc, cache, seed, input, nv, package_ranges)?;

@@ -2,6 +2,7 @@
 ghost use Rattle.std.specs.Prelude.{◌≡◌, ℕ, take, IfOk, OnOk, OnErr};
 ghost use Rattle.fast_check_tables_packages.specs.Package.{nv_of};
 ghost use Rattle.fast_check_build_answers.specs.Answered.{IsAnswered, AreAnswered, sets};
+ghost use Rattle.fast_check_build_answers.specs.Input.{first_alone, KeepsKeys};
 ghost use Rattle.fast_check_build_answers.specs.Kept.{with_package};
 ghost use Rattle.fast_check_build_answers.specs.Owned.{IsOwned, AreOwned};
 
@@ -20,8 +21,7 @@ fn answer_one(
     package_ranges: PackagePublicRanges,
 ) -> Result<Vec<ModuleAnswer>, AllocError>
     requires { IsOwned input.root_symbol.now package_ranges }
-    ensures { let i = input.entry in IfOk result (λ answers.
-        IsAnswered i.graph.now i.root_symbol.now i.options.now.should_error_on_first_diagnostic package_ranges answers.items) }
+    ensures { let i = input.entry in IfOk result (λ made. IsAnswered i.graph.now i.root_symbol.now (first_alone i) package_ranges made.items) }
 {
     // Maps and sets are in order.
     let _ = package_ranges.module_ranges.len();
@@ -37,8 +37,7 @@ pub fn answer_all(
     ranges: BTreeMap<PackageNv, PackagePublicRanges>,
 ) -> Result<Vec<ModuleAnswer>, AllocError>
     requires { AreOwned input.root_symbol.now ranges.entries }
-    ensures { let i = input.entry in IfOk result (λ answers.
-        AreAnswered i.graph.now i.root_symbol.now i.options.now.should_error_on_first_diagnostic ranges.entries answers.items) }
+    ensures { let i = input.entry in IfOk result (λ made. AreAnswered i.graph.now i.root_symbol.now (first_alone i) ranges.entries made.items) }
 {
     let mut answers = Vec::new(alloc);
     for (_, package_ranges) in ranges {
@@ -58,14 +57,11 @@ fn answer_and_set_one(
     package_ranges: PackagePublicRanges,
 ) -> Result<Vec<ModuleAnswer>, AllocError>
     requires { IsOwned input.root_symbol.now package_ranges }
-    ensures answered { let i = input.entry in IfOk result (λ answers.
-        IsAnswered i.graph.now i.root_symbol.now i.options.now.should_error_on_first_diagnostic package_ranges answers.items) }
-    ensures set { let i = input.entry in
-        OnOk result (stored cache.new ≡ with_package (hash_of cache.old seed.now) i.options.now.should_error_on_first_diagnostic
-        i.graph.now i.root_symbol.now (nv_of nv.now) package_ranges (stored cache.old)) }
+    ensures answered { let i = input.entry in IfOk result (λ made. IsAnswered i.graph.now i.root_symbol.now (first_alone i) package_ranges made.items) }
+    ensures set { let i = input.entry in OnOk result (stored cache.new
+        ≡ with_package (hash_of cache.old seed.now) (first_alone i) i.graph.now i.root_symbol.now (nv_of nv.now) package_ranges (stored cache.old)) }
     ensures err { OnErr result (stored cache.new ≡ stored cache.old) }
-    ensures seed { seed_text cache.new ≡ seed_text cache.old }
-    ensures hash { hash_of cache.new ≡ hash_of cache.old }
+    ensures keys { KeepsKeys (seed_text cache.old) (seed_text cache.new) (hash_of cache.old) (hash_of cache.new) }
 {
     // Maps and sets are in order.
     let _ = package_ranges.module_ranges.len();
@@ -83,16 +79,12 @@ pub fn answer_and_set_all(
     ranges: BTreeMap<PackageNv, PackagePublicRanges>,
 ) -> Result<Vec<ModuleAnswer>, AllocError>
     requires { AreOwned input.root_symbol.now ranges.entries }
-    ensures answered { let i = input.entry in IfOk result (λ answers.
-        AreAnswered i.graph.now i.root_symbol.now i.options.now.should_error_on_first_diagnostic ranges.entries answers.items) }
-    ensures set { let i = input.entry in
-        OnOk result (stored cache.new ≡ sets (hash_of cache.old seed.now) i.options.now.should_error_on_first_diagnostic
-        i.graph.now i.root_symbol.now ranges.entries (stored cache.old)) }
-    ensures err { let i = input.entry in
-        OnErr result ((n : ℕ) × (stored cache.new ≡ sets (hash_of cache.old seed.now) i.options.now.should_error_on_first_diagnostic
-        i.graph.now i.root_symbol.now (take n ranges.entries) (stored cache.old))) }
-    ensures seed { seed_text cache.new ≡ seed_text cache.old }
-    ensures hash { hash_of cache.new ≡ hash_of cache.old }
+    ensures answered { let i = input.entry in IfOk result (λ made. AreAnswered i.graph.now i.root_symbol.now (first_alone i) ranges.entries made.items) }
+    ensures set { let i = input.entry in OnOk result (stored cache.new
+        ≡ sets (hash_of cache.old seed.now) (first_alone i) i.graph.now i.root_symbol.now ranges.entries (stored cache.old)) }
+    ensures err { let i = input.entry in OnErr result ((n : ℕ) × (stored cache.new
+        ≡ sets (hash_of cache.old seed.now) (first_alone i) i.graph.now i.root_symbol.now (take n ranges.entries) (stored cache.old))) }
+    ensures keys { KeepsKeys (seed_text cache.old) (seed_text cache.new) (hash_of cache.old) (hash_of cache.new) }
 {
     let mut answers = Vec::new(alloc);
     for (nv, package_ranges) in ranges {

@@ -1,3 +1,4 @@
+-- Inner: no contract of a public call cites what stands here.
 -- The hash that the caches of the example keep the item of a package under.
 use Rattle.std.specs.Prelude.{ℕ, Bool, true, false, List, ◌+◌, ◌*◌, ◌%◌, ◌^◌, fold}
 use Rattle.fast_check_tables_packages.specs.Package.{Nv, VersionParts}

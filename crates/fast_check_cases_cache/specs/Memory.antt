@@ -1,3 +1,4 @@
+-- Inner: no contract of a public call cites what stands here.
 -- What contracts see of caches in memory, and under which key the item of a package stands.
 use Rattle.std.specs.Prelude.{◌≡◌, ℕ, Option, None, option_map}
 use Rattle.std.specs.Ordering.{nat_cmp}

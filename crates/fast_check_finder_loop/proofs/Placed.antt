@@ -1,5 +1,5 @@
 -- A module comes to have a place: nothing is asked by that, and that it is recorded is found.
-use Rattle.std.proofs.Common.{◌≡◌, ◌∙◌, sym, ap, refl, subst, ℕ, suc, ◌<◌, Bool, true, false, ◌&&◌, ◌||◌, List, [], ◌∷◌, ◌++◌, Option, Some, None, map}
+use Rattle.std.proofs.Common.{◌≡◌, ◌∙◌, sym, ap, refl, subst, ℕ, suc, ◌<◌, Bool, true, false, ◌&&◌, ◌||◌, List, [], ◌∷◌, ◌++◌, Option, Some, map}
 use Rattle.std.proofs.Common.{slice_get, option_to_list, length, drop, ⊎_elim, inl, arith, length-append}
 use Rattle.std.specs.Prelude.{IfSome}
 use Rattle.std.proofs.Math.Path.{fun_ext}
@@ -41,7 +41,7 @@ use Rattle.fast_check_finder_loop.specs.declared.demand.SymbolAt.{SymbolAt}
 use Rattle.fast_check_finder_loop.specs.declared.finder.Finder.{Finder}
 use Rattle.fast_check_finder_loop.specs.Asked.{covers}
 use Rattle.fast_check_finder_loop.specs.Search.{Search}
-use Rattle.fast_check_finder_loop.specs.Finder.{Followed, Modules, place_nv, place_text, has_symbol, place_of, places, names_seen, seen_at, symbol_at, symbols_at, search_in, search_of, entered_yields, entered_nv, depends, followed_yields, untyped_yields_of, yields_by, yields_in, traced_in, IsModuleOf, IsSound, IsPlaced, Goes}
+use Rattle.fast_check_finder_loop.specs.Finder.{Followed, Modules, place_nv, place_text, has_symbol, place_of, places, names_seen, seen_at, symbol_at, symbols_at, search_in, search_of, entered_yields, entered_nv, depends, followed_yields, untyped_yields_of, yields_by, yields_in, traced_in, IsModuleOf, IsSound, IsNew, IsPlaced, Goes}
 use Rattle.fast_check_finder_loop.proofs.Steps.{same_itself}
 use Rattle.fast_check_finder_loop.proofs.Joins.{joins_left, joins_right, joins_last}
 use Rattle.fast_check_finder_loop.proofs.Gained.{get_in}
@@ -83,17 +83,15 @@ module _ (g : ModuleGraph) (r : RootSymbol) (f b : Finder) (sound : IsSound g r 
     pub dependencies : b.dependencies.keys ≡ f.dependencies.keys
     pub untyped : b.untyped.items ≡ f.untyped.items
 
-  abbrev IsNew : Type 0
-  IsNew = (b.modules.entries ≡ f.modules.entries ++ m ∷ []) × (m.1.found.info.now ≡ info) × (m.1.asked ≡ []) ×
-      (m.1.found.ranges.items ≡ []) × (m.1.found.implementations.items ≡ []) × (m.1.found.faults.items ≡ []) ×
-      (m.1.index ≡ None) × (m.1.shows_all ≡ false) × (m.1.aliases.keys ≡ [])
+  abbrev IsAdded : Type 0
+  IsAdded = (b.modules.entries ≡ f.modules.entries ++ m ∷ []) × IsNew info m.1
 
   -- what is kept is of this module
   pub placed_info : m.1.found.info.now ≡ info
   placed_info = ⊎_elim
       (λ same. let own = sound.modules m (get_in f.modules.entries place m (subst (λ (ms : Modules). slice_get ms place ≡ Some m) same placed.here)) in
       some_is m.1.found.info.now info (sym own.named ∙ (ap (named_at r) placed.text_is ∙ named)))
-      (λ new. new.1) placed.by
+      (λ new. new.1.info) placed.by
 
   module _ (w : IsSameBeside) where
     abbrev state : Modules → Search
@@ -148,9 +146,9 @@ module _ (g : ModuleGraph) (r : RootSymbol) (f b : Finder) (sound : IsSound g r 
 
     -- a new one
 
-    module _ (new : IsNew) where
+    module _ (new : IsAdded) where
       no_symbol : (p : Nv) (t : Text) (d : SymbolDemand) → has_symbol p t d m ≡ false
-      no_symbol p t d = ap (λ (xs : List SymbolDemand). same_nv p (place_nv m) && (bytes_eq t (place_text m) && list_any (covers d) xs)) new.2 ∙
+      no_symbol p t d = ap (λ (xs : List SymbolDemand). same_nv p (place_nv m) && (bytes_eq t (place_text m) && list_any (covers d) xs)) new.1.asked ∙
           no_test (same_nv p (place_nv m)) (bytes_eq t (place_text m))
 
       keys_last : (es : Modules) (x : Followed) → places (es ++ x ∷ []) ≡ places es ++ place_of x.0 ∷ []
@@ -191,11 +189,11 @@ module _ (g : ModuleGraph) (r : RootSymbol) (f b : Finder) (sound : IsSound g r 
       -- all that is found of it
       found_is : followed_yields m ≡ recorded nv (serialize (specifier_of info)) ∷ []
       found_is =
-          ap (λ (xs : List SourceRange). with xs m.1.found.implementations.items m.1.found.faults.items) new.3 ∙
-          (ap (λ (xs : List SourceRange). with [] xs m.1.found.faults.items) new.4 ∙
-          (ap (λ (xs : List SymbolFault). with [] [] xs) new.5 ∙
+          ap (λ (xs : List SourceRange). with xs m.1.found.implementations.items m.1.found.faults.items) new.1.ranges ∙
+          (ap (λ (xs : List SourceRange). with [] xs m.1.found.faults.items) new.1.implementations ∙
+          (ap (λ (xs : List SymbolFault). with [] [] xs) new.1.faults ∙
           (ap (λ (p : Nv). recorded p (own_text m.1.found) ∷ []) placed.nv_is ∙
-          ap (λ (i : AnyModuleInfo). recorded nv (serialize (specifier_of i)) ∷ []) new.1)))
+          ap (λ (i : AnyModuleInfo). recorded nv (serialize (specifier_of i)) ∷ []) new.1.info)))
         where
           with : List SourceRange → List SourceRange → List SymbolFault → List Yield
           with ranges implementations faults = recorded (place_nv m) (own_text m.1.found) ∷ (map (public (place_nv m) (own_text m.1.found)) ranges ++
@@ -209,11 +207,11 @@ module _ (g : ModuleGraph) (r : RootSymbol) (f b : Finder) (sound : IsSound g r 
 
       own_module : IsModuleOf g r m
       own_module = record {
-        named = ap (named_at r) placed.text_is ∙ (named ∙ ap Some (sym new.1));
-        own = placed.text_is ∙ ap (λ (i : AnyModuleInfo). serialize (specifier_of i)) (sym new.1);
-        index = subst (λ (o : Option ReExportIndex). IfSome o (IsIndexOf (traced_in g r m.1.found.info.now))) (sym new.6) tt;
-        shown = λ t. absurd (false≢true (sym new.7 ∙ t));
-        aliases = λ a c. absurd (none_in a (subst (λ (ks : List AskedAlias). Contains ks a) new.8 c));
+        named = ap (named_at r) placed.text_is ∙ (named ∙ ap Some (sym new.1.info));
+        own = placed.text_is ∙ ap (λ (i : AnyModuleInfo). serialize (specifier_of i)) (sym new.1.info);
+        index = subst (λ (o : Option ReExportIndex). IfSome o (IsIndexOf (traced_in g r m.1.found.info.now))) (sym new.1.index) tt;
+        shown = λ t. absurd (false≢true (sym new.1.shows_all ∙ t));
+        aliases = λ a c. absurd (none_in a (subst (λ (ks : List AskedAlias). Contains ks a) new.1.aliases c));
       }
 
       goes_new : Goes g r [] (recorded nv (serialize (specifier_of info)) ∷ []) f b

@@ -1,5 +1,5 @@
 -- Packages with a text that does not join: the loop stops at one, and an answer has none.
-use Rattle.std.proofs.Common.{◌≡◌, ◌∙◌, sym, ap, refl, subst, ℕ, ◌<◌, List, [], ◌∷◌, map, length, get_or, Option, Some, None, arith}
+use Rattle.std.proofs.Common.{◌≡◌, ◌∙◌, sym, ap, refl, subst, ℕ, ◌<◌, List, [], ◌∷◌, map, length, get_or, Option, Some, None, Result, Ok, Err, IsErrAnd, MatchResult, arith}
 use Rattle.std.specs.Prelude.{option_to_list, slice_get}
 use Rattle.std.specs.List.{Contains, flat_map}
 use Rattle.std.proofs.lemmas.List.{length-map, get_or-map}
@@ -98,3 +98,8 @@ pub refusal : (k : Known) (roots packages : List Nv) → ((p : Nv) → Contains 
     IsRefusedOf k packages f → IsRefusal k roots f
 refusal k roots packages chained OutOfMemory t = tt
 refusal k roots packages chained (InvalidExport p text) t = (chained (nv_of p) t.0, t.1)
+
+-- `?` passes it on as it is
+pub refused_on : {T E : Type 0} (r : Result T E) (e : E) (P : T → Type 0) (Q : E → Type 0) → IsErrAnd r (λ y. y ≡ e) → Q e → MatchResult r P Q
+refused_on (Ok x) e P Q is q = absurd is
+refused_on (Err y) e P Q is q = subst Q (sym is) q

@@ -40,7 +40,7 @@ use Rattle.fast_check_finder_loop.specs.Once.{AreOnce}
 use Rattle.fast_check_finder_loop.specs.Search.{Search, AsksAll}
 use Rattle.fast_check_finder_loop.specs.Turn.{AreSame, IsBegun, IsTurn}
 use Rattle.fast_check_finder_loop.specs.Rules.{followers}
-use Rattle.fast_check_finder_loop.specs.Yields.{demand_yields}
+use Rattle.fast_check_finder_loop.specs.Yields.{dependencies, demand_yields}
 
 -- modules that are followed, each for a package
 abbrev pub Followed : Type 0
@@ -168,15 +168,36 @@ pub record IsSound (g : ModuleGraph) (r : RootSymbol) (f : Finder) : Type 0 wher
 abbrev pub CanEnter : Nv → Finder → Type 0
 CanEnter nv f = AreOnce (map nv_of f.packages) f.entered (map entered_nv f.entrances.items ++ nv ∷ [])
 
+-- nothing was asked or found of a module
+pub record IsNew (i : AnyModuleInfo) (m : FollowedModule) : Type 0 where
+  pub info : m.found.info.now ≡ i
+  pub asked : m.asked ≡ []
+  pub aliases : m.aliases.keys ≡ []
+  pub index : m.index ≡ None
+  pub shows_all : m.shows_all ≡ false
+  pub ranges : m.found.ranges.items ≡ []
+  pub implementations : m.found.implementations.items ≡ []
+  pub faults : m.found.faults.items ≡ []
+
+-- what was asked of a module stays
+pub record KeepsAsked (a b : FollowedModule) : Type 0 where
+  pub asked : b.asked ≡ a.asked
+  pub aliases : b.aliases ≡ a.aliases
+  pub index : b.index ≡ a.index
+
+-- what was found of a module stays
+pub record KeepsFound (a b : FollowedModule) : Type 0 where
+  pub found : b.found ≡ a.found
+  pub index : b.index ≡ a.index
+  pub shows_all : b.shows_all ≡ a.shows_all
+
 -- a module that is followed has a place: its own, or a new last one, of which nothing was asked or found
 pub record IsPlaced (nv : Nv) (info : AnyModuleInfo) (place : ℕ) (old new : Modules) : Type 0 where
   pub followed : Followed
   pub here : slice_get new place ≡ Some followed
   pub nv_is : place_nv followed ≡ nv
   pub text_is : place_text followed ≡ serialize (specifier_of info)
-  pub by : (new ≡ old) ⊎ ((new ≡ old ++ followed ∷ []) × (followed.1.found.info.now ≡ info) × (followed.1.asked ≡ []) ×
-      (followed.1.found.ranges.items ≡ []) × (followed.1.found.implementations.items ≡ []) × (followed.1.found.faults.items ≡ []) ×
-      (followed.1.index ≡ None) × (followed.1.shows_all ≡ false) × (followed.1.aliases.keys ≡ []))
+  pub by : (new ≡ old) ⊎ ((new ≡ old ++ followed ∷ []) × IsNew info followed.1)
 
 -- these ranges are shown, and nothing else changes
 pub record Shows (more : List SourceRange) (a b : FollowedModule) : Type 0 where
@@ -193,6 +214,19 @@ pub record Goes (g : ModuleGraph) (r : RootSymbol) (demand_sets : List DemandSet
   pub asks : AsksAll asked (search_of a) (search_of b)
   pub found : Joins yields (yields_in a) (yields_in b)
   pub sound : IsSound g r b
+
+-- these are asked and nothing is found, and a package that could be entered still can
+pub record OnlyAsks (demand_sets : List DemandSet) (a b : Finder) : Type 0 where
+  pub goes : (g : ModuleGraph) (r : RootSymbol) → IsSound g r a → Goes g r demand_sets [] a b
+  pub enters : (nv : Nv) → CanEnter nv a → CanEnter nv b
+
+-- these are asked for a package, and the other packages among them are its dependencies
+abbrev pub AsksFor : Known → Nv → List DemandSet → Finder → Finder → Type 0
+AsksFor k nv demand_sets a b = IsSound k.graph k.root_symbol a → Goes k.graph k.root_symbol demand_sets (dependencies nv demand_sets) a b
+
+-- a demand is followed
+abbrev pub Follows : Known → Demand → Finder → Finder → Type 0
+Follows k d a b = Goes k.graph k.root_symbol (followers k d) (demand_yields k d) a b
 
 -- these packages are asked, and nothing else
 pub record Begins (g : ModuleGraph) (r : RootSymbol) (roots : List Nv) (f : Finder) : Type 0 where

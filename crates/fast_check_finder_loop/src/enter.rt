@@ -1,7 +1,7 @@
 //! A package that is entered.
 
 ghost use Rattle.std.specs.Prelude.{◌∷◌, [], None, map, OnOk, IfErr};
-ghost use Rattle.fast_check_tables_packages.specs.Package.{Nv as NvSeen, nv_of};
+ghost use Rattle.fast_check_tables_packages.specs.Package.{nv_of};
 ghost use Rattle.fast_check_tables_packages.specs.MembersIn.{members_in};
 ghost use Rattle.fast_check_tables_graph.specs.declared.graph.ModuleGraph.{ModuleGraph as ModuleGraphSeen};
 ghost use Rattle.fast_check_tables_graph.specs.declared.root_symbol.RootSymbol.{RootSymbol as RootSymbolSeen};
@@ -12,10 +12,10 @@ ghost use Rattle.fast_check_finder_ranges.specs.entries.Entries.{entrance_seen, 
 ghost use Rattle.fast_check_finder_ranges.specs.entries.MemberEntries.{AreMemberEntries};
 ghost use Rattle.fast_check_finder_demands.specs.asked.Demands.{of_package, to_package};
 ghost use Rattle.fast_check_finder_demands.specs.facts.GraphFacts.{known};
-ghost use Rattle.fast_check_finder_loop.specs.Finder.{IsSound, CanEnter, Goes};
+ghost use Rattle.fast_check_finder_loop.specs.Finder.{IsSound, CanEnter, Goes, OnlyAsks, Follows};
 ghost use Rattle.fast_check_finder_loop.specs.Lent.{used_of, known_with};
-ghost use Rattle.fast_check_finder_loop.specs.Rules.{entry_demands, unless_faulty, entered_followers, entry_followers, entrance_at, followers};
-ghost use Rattle.fast_check_finder_loop.specs.Yields.{entered_yields, entry_yields, demand_yields};
+ghost use Rattle.fast_check_finder_loop.specs.Rules.{entry_demands, unless_faulty, entered_followers, entry_followers, entrance_at};
+ghost use Rattle.fast_check_finder_loop.specs.Yields.{entered_yields, entry_yields};
 
 use crate::finder::Finder;
 use crate::options::Lent;
@@ -35,9 +35,7 @@ use url::Url;
 impl<'a> Finder<'a> {
     /// Asks for packages.
     fn ask_packages(&mut self, packages: &BTreeSet<PackageNv>) -> Result<(), AllocError>
-        ensures goes { OnOk result ((g : ModuleGraphSeen) (r : RootSymbolSeen) → IsSound g r self.old
-            → Goes g r (map to_package (map nv_of packages.now.keys)) [] self.old self.new) }
-        ensures enters { OnOk result ((nv : NvSeen) → CanEnter nv self.old → CanEnter nv self.new) }
+        ensures { OnOk result (OnlyAsks (map to_package (map nv_of packages.now.keys)) self.old self.new) }
     {
         for on in packages {
             self.ask_package(on)?;
@@ -52,9 +50,7 @@ impl<'a> Finder<'a> {
         nv: &PackageNv,
         entry_points: &BTreeSet<Url>,
     ) -> Result<(), AllocError>
-        ensures goes { OnOk result ((g : ModuleGraphSeen) (r : RootSymbolSeen) → IsSound g r self.old
-            → Goes g r (map (entry_demands (nv_of nv.now)) entry_points.now.keys) [] self.old self.new) }
-        ensures enters { OnOk result ((nv : NvSeen) → CanEnter nv self.old → CanEnter nv self.new) }
+        ensures { OnOk result (OnlyAsks (map (entry_demands (nv_of nv.now)) entry_points.now.keys) self.old self.new) }
     {
         for url in entry_points {
             self.ask_names(alloc, nv, url, NameDemand::All)?;
@@ -136,9 +132,8 @@ impl<'a> Finder<'a> {
     ) -> Result<(), BuildFault>
         ensures entered { let k = known_with lent.entry.facts lent.entry.seed.now (url_of lent.entry.provider.now) (nv_at lent.entry.provider.now)
             lent.entry.cache (λ c. hash_of c.now) (λ c. stored c.now) in
-            let d = of_package (nv_of nv.now) in
             OnOk result (AreMemberEntries k.workspace_members members.old → AreMemberEntries k.workspace_members members.new × (IsSound k.graph k.root_symbol self.old
-            → CanEnter (nv_of nv.now) self.old → Goes k.graph k.root_symbol (followers k d) (demand_yields k d) self.old self.new)) }
+            → CanEnter (nv_of nv.now) self.old → Follows k (of_package (nv_of nv.now)) self.old self.new)) }
         ensures refused { IfErr result (DiagnosesRefused (nv_of nv.now)
             (entrance_at (known lent.entry.facts (url_of lent.entry.provider.now) (nv_at lent.entry.provider.now)) (nv_of nv.now))) }
     {

@@ -1,6 +1,6 @@
 //! The loop.
 
-ghost use Rattle.std.specs.Prelude.{◌≡◌, [], map, IfOk, IfErr};
+ghost use Rattle.std.specs.Prelude.{◌≡◌, [], map, IfOk, MatchResult};
 ghost use Rattle.fast_check_tables_packages.specs.Package.{nv_of};
 ghost use Rattle.fast_check_tables_graph.specs.declared.graph.ModuleGraph.{ModuleGraph as ModuleGraphSeen};
 ghost use Rattle.fast_check_tables_graph.specs.declared.root_symbol.RootSymbol.{RootSymbol as RootSymbolSeen};
@@ -44,12 +44,10 @@ impl<'a> Finder<'a> {
         requires sound { IsSound lent.facts.graph.now lent.facts.root_symbol.now self.old }
         requires no_symbols { self.old.symbols.items ≡ [] }
         requires no_names { self.old.names.items ≡ [] }
-        ensures turned { let k = known_with lent.entry.facts lent.entry.seed.now (url_of lent.entry.provider.now) (nv_at lent.entry.provider.now)
+        ensures { let k = known_with lent.entry.facts lent.entry.seed.now (url_of lent.entry.provider.now) (nv_at lent.entry.provider.now)
             lent.entry.cache (λ c. hash_of c.now) (λ c. stored c.now) in
-            IfOk result (λ more. AreMemberEntries k.workspace_members members.old → TurnsTo k more self.old self.new × AreMemberEntries k.workspace_members members.new) }
-        ensures refused { let k = known_with lent.entry.facts lent.entry.seed.now (url_of lent.entry.provider.now) (nv_at lent.entry.provider.now)
-            lent.entry.cache (λ c. hash_of c.now) (λ c. stored c.now) in
-            IfErr result (IsRefusedOf k (map nv_of self.old.packages)) }
+            MatchResult result (λ more. AreMemberEntries k.workspace_members members.old → TurnsTo k more self.old self.new ×
+            AreMemberEntries k.workspace_members members.new) (IsRefusedOf k (map nv_of self.old.packages)) }
     {
         if self.entered >= self.packages.len() {
             return Ok(false);
@@ -73,13 +71,11 @@ pub fn find_all<'a>(
     lent: Lent<'a, '_>,
     roots: &[PackageNv],
 ) -> Result<IndexMap<PackageNv, FoundPackage<'a>>, BuildFault>
-    ensures found { let k = known_with lent.entry.facts lent.entry.seed.now (url_of lent.entry.provider.now) (nv_at lent.entry.provider.now)
+    ensures { let k = known_with lent.entry.facts lent.entry.seed.now (url_of lent.entry.provider.now) (nv_at lent.entry.provider.now)
         lent.entry.cache (λ c. hash_of c.now) (λ c. stored c.now) in
-        IfOk result (λ found. (account : Account) × IsAccount (followers k) (map nv_of roots.now) account
-        × IsYield (demand_yields k) account (found_yields found.entries) × JoinAll k account × HasHomes account) }
-    ensures refused { let k = known_with lent.entry.facts lent.entry.seed.now (url_of lent.entry.provider.now) (nv_at lent.entry.provider.now)
-        lent.entry.cache (λ c. hash_of c.now) (λ c. stored c.now) in
-        IfErr result (IsRefusal k (map nv_of roots.now)) }
+        MatchResult result (λ found. (account : Account) × IsAccount (followers k) (map nv_of roots.now) account
+        × IsYield (demand_yields k) account (found_yields found.entries) × JoinAll k account × HasHomes account)
+        (IsRefusal k (map nv_of roots.now)) }
 {
     let mut finder = begin(lent.alloc, roots)?;
     let mut members = MemberEntries::new(lent.alloc);

@@ -1,15 +1,15 @@
 //! What was asked for, what of it waits, and what was found so far.
 
-ghost use Rattle.std.specs.Prelude.{◌≡◌, [], ◌∷◌, None, false, IfOk, OnOk};
+ghost use Rattle.std.specs.Prelude.{◌≡◌, [], ◌∷◌, IfOk, OnOk};
 ghost use Rattle.url.specs.Parts.{serialize};
-ghost use Rattle.fast_check_tables_packages.specs.Package.{Nv as NvSeen, nv_of};
+ghost use Rattle.fast_check_tables_packages.specs.Package.{nv_of};
 ghost use Rattle.fast_check_finder_demands.specs.symbol_demands.Demands.{demand_of};
 ghost use Rattle.fast_check_finder_demands.specs.name_demands.Files.{names_of};
 ghost use Rattle.fast_check_finder_ranges.specs.findings.Yields.{dependency};
 ghost use Rattle.fast_check_finder_demands.specs.asked.Demands.{asked_by, to_package, to_module};
 ghost use Rattle.fast_check_tables_graph.specs.declared.graph.ModuleGraph.{ModuleGraph as ModuleGraphSeen};
 ghost use Rattle.fast_check_tables_graph.specs.declared.root_symbol.RootSymbol.{RootSymbol as RootSymbolSeen};
-ghost use Rattle.fast_check_finder_loop.specs.Finder.{search_of, yields_in, AsksOne, AsksEach, IsPlaced, IsSound, CanEnter, Goes};
+ghost use Rattle.fast_check_finder_loop.specs.Finder.{search_of, yields_in, AsksOne, AsksEach, IsNew, IsPlaced, IsSound, Goes, OnlyAsks};
 ghost use Rattle.fast_check_finder_loop.specs.Search.{IsFresh};
 
 use crate::asked::{AskedAlias, AskedSymbols};
@@ -62,14 +62,7 @@ pub struct Finder<'a> {
 
 impl<'a> FollowedModule<'a> {
     fn new(alloc: Global, info: &'a AnyModuleInfo) -> FollowedModule<'a>
-        ensures info { result.found.info.now ≡ info.entry.now }
-        ensures ranges { result.found.ranges.items ≡ [] }
-        ensures implementations { result.found.implementations.items ≡ [] }
-        ensures faults { result.found.faults.items ≡ [] }
-        ensures asked { result.asked ≡ [] }
-        ensures aliases { result.aliases.keys ≡ [] }
-        ensures index { result.index ≡ None }
-        ensures shows_all { result.shows_all ≡ false }
+        ensures { IsNew info.entry.now result }
     {
         FollowedModule {
             asked: AskedSymbols::new(alloc),
@@ -153,9 +146,7 @@ impl<'a> Finder<'a> {
 
     /// Asks for a package. It waits if it is new.
     pub fn ask_package(&mut self, nv: &PackageNv) -> Result<(), AllocError>
-        ensures goes { OnOk result ((g : ModuleGraphSeen) (r : RootSymbolSeen) → IsSound g r self.old
-            → Goes g r (to_package (nv_of nv.now) ∷ []) [] self.old self.new) }
-        ensures enters { OnOk result ((nv : NvSeen) → CanEnter nv self.old → CanEnter nv self.new) }
+        ensures { OnOk result (OnlyAsks (to_package (nv_of nv.now) ∷ []) self.old self.new) }
     {
         self.packages.add(nv)
     }
@@ -168,9 +159,7 @@ impl<'a> Finder<'a> {
         specifier: &Url,
         names: NameDemand<'a>,
     ) -> Result<(), AllocError>
-        ensures goes { OnOk result ((g : ModuleGraphSeen) (r : RootSymbolSeen) → IsSound g r self.old → Goes g r (to_module (nv_of owner.now) (serialize specifier.now) (asked_by (names_of names.entry)) ∷ []) []
-            self.old self.new) }
-        ensures enters { OnOk result ((nv : NvSeen) → CanEnter nv self.old → CanEnter nv self.new) }
+        ensures { OnOk result (OnlyAsks (to_module (nv_of owner.now) (serialize specifier.now) (asked_by (names_of names.entry)) ∷ []) self.old self.new) }
     {
         if let Some(names) = ask_names(alloc, &mut self.handled, specifier, names)? {
             self.names.push(NamesAt {

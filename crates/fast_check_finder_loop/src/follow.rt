@@ -18,9 +18,9 @@ ghost use Rattle.fast_check_finder_demands.specs.re_exports.ReExports.{module_fo
 ghost use Rattle.fast_check_finder_demands.specs.asked.Demands.{asked_by, of_symbol, to_symbol};
 ghost use Rattle.fast_check_finder_demands.specs.facts.GraphFacts.{known, named_at, traced_as};
 ghost use Rattle.fast_check_finder_demands.specs.facts.Followers.{file_at, behind, file_followers, re_export_followers};
-ghost use Rattle.fast_check_finder_loop.specs.Finder.{Followed, place_nv, place_text, names_seen, traced_in, AsksEach, AreAliasesAsked, AsksOwn, AreShown, Shows, IsSound, Goes};
-ghost use Rattle.fast_check_finder_loop.specs.Rules.{own_text, followers, names_followers};
-ghost use Rattle.fast_check_finder_loop.specs.Yields.{dependencies, public_at, implementing_at, faults_at, names_yields, demand_yields};
+ghost use Rattle.fast_check_finder_loop.specs.Finder.{Followed, place_nv, place_text, names_seen, traced_in, AsksEach, AreAliasesAsked, AsksOwn, AreShown, Shows, KeepsAsked, KeepsFound, IsSound, Goes, AsksFor, Follows};
+ghost use Rattle.fast_check_finder_loop.specs.Rules.{own_text, names_followers};
+ghost use Rattle.fast_check_finder_loop.specs.Yields.{public_at, implementing_at, faults_at, names_yields};
 
 use crate::asked::AskedAlias;
 use crate::demand::{NamesAt, SymbolAt};
@@ -53,10 +53,8 @@ fn add_yields<'a>(at: SymbolAt<'a>, followed: &mut FollowedModule<'a>) -> Result
     ensures faults { OnOk result (map fault_seen followed.new.found.faults.items
         ≡ map fault_seen followed.old.found.faults.items ++ faults (tables_in followed.old.found.info.now) (demand_of at.entry.demand)) }
     ensures info { followed.new.found.info ≡ followed.old.found.info }
-    ensures asked { followed.new.asked ≡ followed.old.asked }
-    ensures aliases { followed.new.aliases ≡ followed.old.aliases }
-    ensures index { followed.new.index ≡ followed.old.index }
     ensures shows_all { followed.new.shows_all ≡ followed.old.shows_all }
+    ensures kept { KeepsAsked followed.old followed.new }
 {
     let tables = tables_of(followed.found.info);
     push_ranges(tables, at.demand, &mut followed.found.ranges)?;
@@ -76,9 +74,7 @@ fn ask_alias<'a>(
 ) -> Result<(), AllocError>
     ensures asks { OnOk result (AreAliasesAsked followed.old → AsksOwn at.entry.place (own_names (tables_in followed.old.found.info.now) at.entry.demand.symbol
         at.entry.demand.referrer) followed.old followed.new symbols.old.items symbols.new.items) }
-    ensures found { OnOk result (followed.new.found ≡ followed.old.found) }
-    ensures index { OnOk result (followed.new.index ≡ followed.old.index) }
-    ensures shows_all { OnOk result (followed.new.shows_all ≡ followed.old.shows_all) }
+    ensures kept { KeepsFound followed.old followed.new }
 {
     let alias = AskedAlias {
         symbol: at.demand.symbol,
@@ -101,9 +97,7 @@ fn ask_own<'a>(
 ) -> Result<(), AllocError>
     ensures asks { let d = demand_of at.entry.demand in OnOk result (AreAliasesAsked followed.old
         → AsksOwn at.entry.place (asked_own (tables_in followed.old.found.info.now) d d.asked) followed.old followed.new symbols.old.items symbols.new.items) }
-    ensures found { OnOk result (followed.new.found ≡ followed.old.found) }
-    ensures index { OnOk result (followed.new.index ≡ followed.old.index) }
-    ensures shows_all { OnOk result (followed.new.shows_all ≡ followed.old.shows_all) }
+    ensures kept { KeepsFound followed.old followed.new }
 {
     match at.demand.ask {
         Ask::Path(_, _) => ask_alias(alloc, at, followed, symbols),
@@ -114,9 +108,7 @@ fn ask_own<'a>(
 /// Adds what names make public of the re-exports of all of a module. All of these are added once.
 fn show(followed: &mut FollowedModule<'_>, public: PublicReExports) -> Result<(), AllocError>
     ensures shows { OnOk result (AreShown followed.old → Shows (shown_ranges (tables_in followed.old.found.info.now).re_exports «public») followed.old followed.new) }
-    ensures asked { OnOk result (followed.new.asked ≡ followed.old.asked) }
-    ensures aliases { OnOk result (followed.new.aliases ≡ followed.old.aliases) }
-    ensures index { OnOk result (followed.new.index ≡ followed.old.index) }
+    ensures kept { KeepsAsked followed.old followed.new }
 {
     match public {
         PublicReExports::Nothing => Ok(()),
@@ -169,9 +161,8 @@ impl<'a> Finder<'a> {
         url: &Url,
         names: NameDemand<'a>,
     ) -> Result<(), AllocError>
-        ensures { let k = known lent.entry.facts (url_of lent.entry.provider.now) (nv_at lent.entry.provider.now) in
-            let ws = file_at (nv_of nv.now) (serialize url.now) (asked_by (names_of names.entry)) (k.owner (serialize url.now)) in
-            OnOk result (IsSound k.graph k.root_symbol self.old → Goes k.graph k.root_symbol ws (dependencies (nv_of nv.now) ws) self.old self.new) }
+        ensures { let k = known lent.entry.facts (url_of lent.entry.provider.now) (nv_at lent.entry.provider.now) in let t = serialize url.now in
+            OnOk result (AsksFor k (nv_of nv.now) (file_at (nv_of nv.now) t (asked_by (names_of names.entry)) (k.owner t)) self.old self.new) }
     {
         match owner_of(lent.facts, lent.provider, url)? {
             None => Ok(()),
@@ -192,9 +183,8 @@ impl<'a> Finder<'a> {
         info: &'a AnyModuleInfo,
         dependency: FileDependency<'a>,
     ) -> Result<(), AllocError>
-        ensures { let k = known lent.entry.facts (url_of lent.entry.provider.now) (nv_at lent.entry.provider.now) in
-            let ws = file_followers k (nv_of nv.now) (traced_as k info.now) (file_demand_of dependency.entry) in
-            OnOk result (IsSound k.graph k.root_symbol self.old → Goes k.graph k.root_symbol ws (dependencies (nv_of nv.now) ws) self.old self.new) }
+        ensures { let k = known lent.entry.facts (url_of lent.entry.provider.now) (nv_at lent.entry.provider.now) in let m = traced_as k info.now in
+            OnOk result (AsksFor k (nv_of nv.now) (file_followers k (nv_of nv.now) m (file_demand_of dependency.entry)) self.old self.new) }
     {
         let graph = lent.facts.graph;
         match graph.resolve_dependency(dependency.specifier, info.specifier()) {
@@ -211,9 +201,8 @@ impl<'a> Finder<'a> {
         url: &Url,
         names: NameDemand<'a>,
     ) -> Result<(), AllocError>
-        ensures { let k = known lent.entry.facts (url_of lent.entry.provider.now) (nv_at lent.entry.provider.now) in
-            let ws = behind (nv_of nv.now) (serialize url.now) (asked_by (names_of names.entry)) (k.owner (serialize url.now)) in
-            OnOk result (IsSound k.graph k.root_symbol self.old → Goes k.graph k.root_symbol ws (dependencies (nv_of nv.now) ws) self.old self.new) }
+        ensures { let k = known lent.entry.facts (url_of lent.entry.provider.now) (nv_at lent.entry.provider.now) in let t = serialize url.now in
+            OnOk result (AsksFor k (nv_of nv.now) (behind (nv_of nv.now) t (asked_by (names_of names.entry)) (k.owner t)) self.old self.new) }
     {
         match owner_of(lent.facts, lent.provider, url)? {
             None => Ok(()),
@@ -235,9 +224,8 @@ impl<'a> Finder<'a> {
         info: &'a AnyModuleInfo,
         demand: ReExportDemand<'a>,
     ) -> Result<(), AllocError>
-        ensures { let k = known lent.entry.facts (url_of lent.entry.provider.now) (nv_at lent.entry.provider.now) in
-            let ws = re_export_followers k (nv_of nv.now) (traced_as k info.now) (module_demand_of demand.entry) in
-            OnOk result (IsSound k.graph k.root_symbol self.old → Goes k.graph k.root_symbol ws (dependencies (nv_of nv.now) ws) self.old self.new) }
+        ensures { let k = known lent.entry.facts (url_of lent.entry.provider.now) (nv_at lent.entry.provider.now) in let m = traced_as k info.now in
+            OnOk result (AsksFor k (nv_of nv.now) (re_export_followers k (nv_of nv.now) m (module_demand_of demand.entry)) self.old self.new) }
     {
         match demand {
             ReExportDemand::Answered(url, names) => self.ask_behind(lent, nv, url, names),
@@ -280,8 +268,7 @@ impl<'a> Finder<'a> {
         requires { at.place < length self.old.modules.entries }
         ensures { let k = known lent.entry.facts (url_of lent.entry.provider.now) (nv_at lent.entry.provider.now) in
             OnOk result ((e : Followed) → slice_get self.old.modules.entries at.entry.place ≡ Some e → IsSound k.graph k.root_symbol self.old
-            → let d = of_symbol (place_nv e) (place_text e) (demand_of at.entry.demand) in
-            Goes k.graph k.root_symbol (followers k d) (demand_yields k d) self.old self.new) }
+            → Follows k (of_symbol (place_nv e) (place_text e) (demand_of at.entry.demand)) self.old self.new) }
     {
         let Some((place, followed)) = self.modules.get_index(at.place) else {
             return Ok(());
@@ -348,7 +335,7 @@ impl<'a> Finder<'a> {
     pub fn follow_names(&mut self, lent: Lent<'a, '_>, at: NamesAt<'a>) -> Result<(), AllocError>
         requires { IsSound lent.facts.graph.now lent.facts.root_symbol.now self.old }
         ensures { let k = known lent.entry.facts (url_of lent.entry.provider.now) (nv_at lent.entry.provider.now) in
-            let d = names_seen at.entry in OnOk result (Goes k.graph k.root_symbol (followers k d) (demand_yields k d) self.old self.new) }
+            OnOk result (Follows k (names_seen at.entry) self.old self.new) }
     {
         let NamesAt {
             package,

@@ -1,5 +1,5 @@
 //! The modules that entry points lead to.
-use crate::sources::{SourceText, sources_of};
+use crate::sources::{Named, SourceText, sources_of};
 use crate::urls::{external, url_of};
 use anyhow::Result;
 use fast_check_source_comments::comments_of;
@@ -29,6 +29,25 @@ pub struct Parsed {
     pub tables: ModuleTables,
 }
 
+/// A text by which a module names another one.
+#[derive(Drop)]
+pub struct Lead {
+    pub text: String,
+    /// Where it stands, as a position of the tree.
+    pub start: u32,
+    pub is_effect: bool,
+    /// The module that it leads to, which may lie outside of the folder.
+    pub target: Option<Url>,
+}
+
+/// A file that was read, with what it names.
+#[derive(Drop)]
+pub struct ReadFile {
+    pub path: String,
+    pub leads: Vec<Lead>,
+    pub names_return: bool,
+}
+
 /// What entry points lead to.
 #[derive(Drop)]
 pub struct Found {
@@ -37,6 +56,27 @@ pub struct Found {
     pub resolutions: BTreeMap<Url, BTreeMap<String, Url>>,
     /// The names of the files of modules that name themselves.
     pub own_names: BTreeMap<Url, String>,
+}
+
+impl Lead {
+    fn of(alloc: Global, source: SourceText<'_>, target: Option<&Url>) -> Result<Lead, AllocError> {
+        let target = match target {
+            Some(target) => Some(target.clone()?),
+            None => None,
+        };
+        let SourceText {
+            text,
+            start,
+            is_effect,
+            ..
+        } = source;
+        Ok(Lead {
+            text: String::from_str(alloc, text)?,
+            start,
+            is_effect,
+            target,
+        })
+    }
 }
 
 fn js(media_type: MediaType) -> Module {
@@ -70,33 +110,42 @@ fn refused(
     Message::at(alloc, path, text, offset, code, why)
 }
 
+// The tree of a module with its bodies cut. The whole one is dropped, as each that another one stands for, since few of them fit into memory.
+fn cut(alloc: Global, tree: Tree, text: &str) -> Result<Tree, AllocError> {
+    short_tree(alloc, text, &tree)
+}
+
+// A tree with its names numbered.
+fn numbered(alloc: Global, short: Tree, is_declaration: bool) -> Result<Tree, AllocError> {
+    with_scopes(alloc, &short, is_declaration)
+}
+
 // The program of a module: its bodies cut, its names numbered, and its exports written in.
 fn program_of(
     alloc: Global,
-    tree: &Tree,
+    tree: Tree,
     text: &str,
     is_declaration: bool,
 ) -> Result<Tree, AllocError> {
-    let short = short_tree(alloc, text, tree)?;
-    let scoped = with_scopes(alloc, &short, is_declaration)?;
-    let whole = mended(alloc, scoped)?;
+    let short = cut(alloc, tree, text)?;
+    let whole = mended(alloc, numbered(alloc, short, is_declaration)?)?;
     with_exports(alloc, &whole, is_declaration)
 }
 
 fn read_module(
     alloc: Global,
-    tree: &Tree,
+    tree: Tree,
     text: &str,
     media_type: MediaType,
 ) -> Result<Parsed, AllocError> {
     let is_declaration = media_type.is_declaration();
-    let own = RcStr::from_str(alloc, text)?;
-    let comments = comments_of(alloc, text, tree)?;
+    let comments = comments_of(alloc, text, &tree)?;
     let program = program_of(alloc, tree, text, is_declaration)?;
     let tables = tables_of(alloc, &program, is_declaration)?;
     let source = ParsedSource {
         media_type,
-        text: own,
+        // No answer has a text of its source.
+        text: RcStr::from_str(alloc, "")?,
         program,
         comments,
         unresolved_context: SyntaxContext(1),
@@ -116,6 +165,8 @@ struct Place<'a> {
 #[derive(Drop)]
 struct Reading {
     found: Found,
+    // The files that are read, in order.
+    read: Vec<ReadFile>,
     messages: Messages,
     // The paths of entry points.
     entries: BTreeSet<String>,
@@ -134,6 +185,7 @@ impl Reading {
                 resolutions: BTreeMap::new(alloc),
                 own_names: BTreeMap::new(alloc),
             },
+            read: Vec::new(alloc),
             messages,
             entries: BTreeSet::new(alloc),
             seen: BTreeSet::new(alloc),
@@ -215,6 +267,23 @@ impl Reading {
         Ok(())
     }
 
+    // Notes that a file is read.
+    fn push_read(
+        &mut self,
+        alloc: Global,
+        path: &str,
+        leads: Vec<Lead>,
+        names_return: bool,
+    ) -> Result<(), AllocError> {
+        let path = String::from_str(alloc, path)?;
+        self.read.push(ReadFile {
+            path,
+            leads,
+            names_return,
+        })?;
+        Ok(())
+    }
+
     // Where the texts of a module lead by which it names others.
     fn leads(
         &mut self,
@@ -224,15 +293,22 @@ impl Reading {
         program: &Tree,
     ) -> Result<BTreeMap<String, Url>> {
         let alloc = files.alloc();
-        let sources = sources_of(alloc, program.read())?;
+        let Named {
+            sources,
+            names_return,
+        } = sources_of(alloc, program.read())?;
         let mut resolved: BTreeMap<String, Url> = BTreeMap::new(alloc);
+        let mut leads = Vec::new(alloc);
         for source in sources.iter() {
             let named = named_types(place.text, (source.around as usize).saturating_sub(1));
-            match self.lead(files, packages, place.path, source.text, named)? {
+            let target = self.lead(files, packages, place.path, source.text, named)?;
+            leads.push(Lead::of(alloc, *source, target.as_ref())?)?;
+            match target {
                 Some(target) => self.note(alloc, place, source.text, target, &mut resolved)?,
                 None => self.missing(alloc, place, *source)?,
             }
         }
+        self.push_read(alloc, place.path, leads, names_return)?;
         Ok(resolved)
     }
 
@@ -296,7 +372,7 @@ impl Reading {
             return Ok(());
         };
         let place = Place { path, url, text };
-        let module = read_module(alloc, &tree, text, media_type)?;
+        let module = read_module(alloc, tree, text, media_type)?;
         let resolved = self.leads(files, packages, place, &module.source.program)?;
         self.keep(url, media_type, resolved, module)?;
         Ok(())
@@ -329,6 +405,7 @@ impl Reading {
             return self.module(files, packages, path, &url, media_type);
         }
         self.other(path, &url, media_type)?;
+        self.push_read(alloc, path, Vec::new(alloc), false)?;
         Ok(())
     }
 
@@ -352,21 +429,22 @@ fn keep_readable(found: &mut Found) {
     }
 }
 
-/// Reads the modules that the entry points of packages lead to inside of a folder.
+/// Reads the modules that the entry points of packages lead to inside of a folder. The files that were read are listed too.
 pub fn modules_of(
     files: &Files<'_>,
     packages: &[Package],
     projects: Projects,
     messages: Messages,
-) -> Result<(Found, Messages)> {
+) -> Result<(Found, Vec<ReadFile>, Messages)> {
     let mut reading = Reading::new(files.alloc(), projects, messages);
     reading.start(packages)?;
     reading.run(files, packages)?;
     let Reading {
         mut found,
+        read,
         messages,
         ..
     } = reading;
     keep_readable(&mut found);
-    Ok((found, messages))
+    Ok((found, read, messages))
 }

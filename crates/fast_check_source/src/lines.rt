@@ -1,8 +1,11 @@
 //! The line that is printed for a folder.
+use crate::follow::{Lead, ReadFile};
 use fast_check_build::answers::ModuleAnswer;
 use fast_check_print::print_answers;
 use fast_check_source_configs::config::Messages;
 use fast_check_source_files::messages::Message;
+use fast_check_source_packages::exports::{Entry, Taken};
+use fast_check_source_packages::resolve::Package;
 use json::Writer;
 use std::alloc::{AllocError, Global};
 
@@ -29,11 +32,89 @@ fn print_messages(out: &mut Writer, messages: &[Message]) -> Result<(), AllocErr
     out.end_array()
 }
 
-/// The line of a folder: the answers, and what is wrong.
+fn print_entries(out: &mut Writer, entries: &[Entry]) -> Result<(), AllocError> {
+    out.begin_array()?;
+    for entry in entries {
+        out.begin_object()?;
+        out.key("key")?;
+        out.string(entry.key.as_str())?;
+        out.key("path")?;
+        out.string(entry.path.as_str())?;
+        out.end_object()?;
+    }
+    out.end_array()
+}
+
+fn print_taken(out: &mut Writer, all: &[Taken]) -> Result<(), AllocError> {
+    out.begin_array()?;
+    for taken in all {
+        out.begin_object()?;
+        out.key("written")?;
+        out.string(taken.written.as_str())?;
+        out.key("path")?;
+        out.string(taken.path.as_str())?;
+        out.end_object()?;
+    }
+    out.end_array()
+}
+
+fn print_packages(out: &mut Writer, packages: &[Package]) -> Result<(), AllocError> {
+    out.begin_array()?;
+    for package in packages {
+        out.begin_object()?;
+        out.key("folder")?;
+        out.string(package.folder.as_str())?;
+        out.key("entries")?;
+        print_entries(out, package.exports.as_slice())?;
+        out.key("taken")?;
+        print_taken(out, package.taken.as_slice())?;
+        out.end_object()?;
+    }
+    out.end_array()
+}
+
+fn print_lead(out: &mut Writer, lead: &Lead) -> Result<(), AllocError> {
+    out.begin_object()?;
+    out.key("text")?;
+    out.string(lead.text.as_str())?;
+    out.key("start")?;
+    out.u64(lead.start as u64)?;
+    out.key("is_effect")?;
+    out.boolean(lead.is_effect)?;
+    out.key("target")?;
+    match &lead.target {
+        Some(target) => out.string(target.as_str())?,
+        None => out.null()?,
+    }
+    out.end_object()
+}
+
+fn print_files(out: &mut Writer, files: &[ReadFile]) -> Result<(), AllocError> {
+    out.begin_array()?;
+    for file in files {
+        out.begin_object()?;
+        out.key("path")?;
+        out.string(file.path.as_str())?;
+        out.key("leads")?;
+        out.begin_array()?;
+        for lead in file.leads.iter() {
+            print_lead(out, lead)?;
+        }
+        out.end_array()?;
+        out.key("names_return")?;
+        out.boolean(file.names_return)?;
+        out.end_object()?;
+    }
+    out.end_array()
+}
+
+/// The line of a folder: the answers, what is wrong, the packages, and the files that were read.
 pub fn line_of(
     alloc: Global,
     answers: Vec<ModuleAnswer>,
     messages: &Messages,
+    packages: &[Package],
+    files: &[ReadFile],
 ) -> Result<String, AllocError> {
     let mut out = Writer::new(Vec::new(alloc));
     out.begin_object()?;
@@ -45,6 +126,10 @@ pub fn line_of(
     print_messages(&mut out, messages.faults.as_slice())?;
     out.key("warnings")?;
     print_messages(&mut out, messages.warnings.as_slice())?;
+    out.key("packages")?;
+    print_packages(&mut out, packages)?;
+    out.key("files")?;
+    print_files(&mut out, files)?;
     out.end_object()?;
     Ok(match String::from_utf8(out.into_inner()) {
         Ok(line) => line,

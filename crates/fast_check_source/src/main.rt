@@ -1,6 +1,6 @@
 //! `fast-check-source DIR ..`: reads the packages of each folder, and answers what `fast-check build` answers of them: a skeleton or the diagnostics of each
-//! of their public modules, with what is wrong with their files, as a line of JSON. The status is 2 where a package cannot be read, and else 1 where a module
-//! has diagnostics.
+//! of their public modules, with what is wrong with their files, the packages, and the files that were read, as a line of JSON. The status is 2 where a package
+//! cannot be read, and else 1 where a module has diagnostics.
 #![tactic(auto)]
 
 ghost use Rattle.std.specs.Prelude.{◌≡◌, ◌≢◌, IsTrue, vec_len};
@@ -99,12 +99,19 @@ fn answer(rt: &HostRuntime, folder: &str) -> Result<(String, u8)> {
     let mut messages = Messages::new(alloc);
     let mut projects = Projects::new(alloc);
     let packages = packages_of(&files, &mut projects, &mut messages)?;
-    let (found, messages) = modules_of(&files, packages.as_slice(), projects, messages)?;
+    let (found, read, messages) = modules_of(&files, packages.as_slice(), projects, messages)?;
     let errors = messages.errors.as_slice();
     let answers = answers_of_readable(alloc, packages.as_slice(), found, errors)?;
     let has_diagnostics = answers.iter().any(|answer| answer.1.is_err());
     let status = status_of(&messages, has_diagnostics);
-    Ok((line_of(alloc, answers, &messages)?, status))
+    let line = line_of(
+        alloc,
+        answers,
+        &messages,
+        packages.as_slice(),
+        read.as_slice(),
+    )?;
+    Ok((line, status))
 }
 
 fn main(rt: HostRuntime) -> Result<ExitCode> {

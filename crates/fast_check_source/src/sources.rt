@@ -3,6 +3,7 @@ use fast_check_tree_forms_programs::{
     ExportAll, ExportNamedSpecifier, Ident, ImportDecl, ImportDefaultSpecifier,
     ImportNamedSpecifier, ImportStarAsSpecifier, NamedExport, Str, TsExternalModuleRef,
 };
+use fast_check_tree_forms_statements::ReturnStmt;
 use fast_check_tree_forms_types::TsImportType;
 use fast_check_tree_syntax::{Kind, Part};
 use std::alloc::{AllocError, Global};
@@ -17,6 +18,16 @@ pub struct SourceText<'a> {
     pub around: u32,
     /// Whether names of the module are exported again.
     pub is_exported: bool,
+    /// Whether the module is imported for its effects alone.
+    pub is_effect: bool,
+}
+
+/// What a module says of others, and of its returns.
+#[derive(Drop)]
+pub struct Named<'a> {
+    pub sources: Vec<SourceText<'a>>,
+    /// Whether a body names its return type by the value of its only return. No other returned value is kept.
+    pub names_return: bool,
 }
 
 // The sources of a module while they are gathered.
@@ -24,7 +35,7 @@ pub struct SourceText<'a> {
 struct Sources<'a> {
     // The names that lists of the module export.
     exported: BTreeSet<&'a str>,
-    found: Vec<SourceText<'a>>,
+    found: Named<'a>,
 }
 
 // The name by which a module calls what an import brings.
@@ -56,14 +67,16 @@ impl<'a> Sources<'a> {
         around: Part<'a>,
         source: Part<'a>,
         is_exported: bool,
+        is_effect: bool,
     ) -> Result<(), AllocError> {
         if source.kind() == Kind::Str {
             let Str { span, value, .. } = Str::of(source);
-            self.found.push(SourceText {
+            self.found.sources.push(SourceText {
                 text: value,
                 start: span.start.0,
                 around: around.part(0).range().start.0,
                 is_exported,
+                is_effect,
             })?;
         }
         Ok(())
@@ -73,33 +86,52 @@ impl<'a> Sources<'a> {
         let ImportDecl {
             specifiers,
             src,
+            type_only,
             ..
         } = ImportDecl::of(part);
+        let is_effect = !type_only && specifiers.parts().is_empty();
         let mut is_exported = false;
         for specifier in specifiers.parts() {
             let name = local_name(specifier.read());
             is_exported = is_exported || self.exported.contains(&name);
         }
-        self.push(part, src, is_exported)
+        self.push(part, src, is_exported, is_effect)
+    }
+
+    // Notes a returned value that is kept: of one that names no type `this` is.
+    fn returned(&mut self, part: Part<'a>) {
+        let arg = ReturnStmt::of(part).arg;
+        if !arg.is_absent() && arg.kind() != Kind::ThisExpr {
+            self.found.names_return = true;
+        }
     }
 
     fn part(&mut self, part: Part<'a>) -> Result<(), AllocError> {
         match part.kind() {
             Kind::ImportDecl => self.import(part),
-            Kind::NamedExport => self.push(part, NamedExport::of(part).src, true),
-            Kind::ExportAll => self.push(part, ExportAll::of(part).src, true),
-            Kind::TsExternalModuleRef => self.push(part, TsExternalModuleRef::of(part).expr, false),
-            Kind::TsImportType => self.push(part, TsImportType::of(part).arg, false),
+            Kind::NamedExport => self.push(part, NamedExport::of(part).src, true, false),
+            Kind::ExportAll => self.push(part, ExportAll::of(part).src, true, false),
+            Kind::TsExternalModuleRef => {
+                self.push(part, TsExternalModuleRef::of(part).expr, false, false)
+            }
+            Kind::TsImportType => self.push(part, TsImportType::of(part).arg, false, false),
+            Kind::ReturnStmt => {
+                self.returned(part);
+                Ok(())
+            }
             _ => Ok(()),
         }
     }
 }
 
-/// The texts of a tree, in order.
-pub fn sources_of<'a>(alloc: Global, program: Part<'a>) -> Result<Vec<SourceText<'a>>, AllocError> {
+/// The texts of a tree, in order, and whether a body names its return type.
+pub fn sources_of<'a>(alloc: Global, program: Part<'a>) -> Result<Named<'a>, AllocError> {
     let mut sources = Sources {
         exported: BTreeSet::new(alloc),
-        found: Vec::new(alloc),
+        found: Named {
+            sources: Vec::new(alloc),
+            names_return: false,
+        },
     };
     for list in program.parts() {
         for item in list.read().parts() {

@@ -1,10 +1,10 @@
 //! Each comment before the token that follows it, or behind the one that it follows in its line.
-use crate::bytes::{blank, byte, has_break, past_block, past_line};
+use crate::bytes::{blank, byte, has_break, past_block, past_line, past_plain};
 use crate::leaves::{Leaf, push_leaves};
 use fast_check_tree_comments::{Comment, CommentKind, CommentList, CommentMap, Comments};
 use fast_check_tree_syntax::{Atom, SourcePos, SourceRange, Tree};
 use std::alloc::{AllocError, Global};
-use std::collections::{BTreeMap, BTreeSet};
+use std::collections::BTreeMap;
 
 fn position(place: usize) -> SourcePos {
     SourcePos((place.min(4294967294) + 1) as u32)
@@ -15,10 +15,10 @@ fn position(place: usize) -> SourcePos {
 struct Attaching<'a> {
     alloc: Global,
     text: &'a str,
-    // Where each opaque leaf ends, by where it begins.
-    opaque: BTreeMap<usize, usize>,
-    // Where names and literals end.
-    ends: BTreeSet<usize>,
+    // Where opaque leaves begin and end, the first one last.
+    opaque: Vec<(usize, usize)>,
+    // Where names and literals end, the first one last.
+    ends: Vec<usize>,
     leading: BTreeMap<usize, Vec<Comment>>,
     trailing: BTreeMap<usize, Vec<Comment>>,
     // The comments before the next token.
@@ -77,15 +77,41 @@ impl<'a> Attaching<'a> {
         })
     }
 
-    // Whether a comment that begins at a place stands behind the last token, if that token allows it.
-    fn trails(&self, kind: CommentKind, start: usize) -> Option<usize> {
+    // Whether a name or a literal ends at a place, which lies behind all that were asked for.
+    fn is_end(&mut self, at: usize) -> bool {
+        for _turn in 0..self.ends.len() {
+            let Some(end) = self.ends.last().copied() else {
+                break;
+            };
+            if end >= at {
+                return end == at;
+            }
+            let _ = self.ends.pop();
+        }
+        false
+    }
+
+    // The next opaque leaf from a place on, which lies behind all that were asked for.
+    fn next_opaque(&mut self, at: usize) -> Option<(usize, usize)> {
+        for _turn in 0..self.opaque.len() {
+            let next = self.opaque.last().copied()?;
+            if next.0 >= at {
+                return Some(next);
+            }
+            let _ = self.opaque.pop();
+        }
+        None
+    }
+
+    // The place of the last token, if a comment that begins at a place stands behind it, and it allows that.
+    fn trails(&mut self, kind: CommentKind, start: usize) -> Option<usize> {
         let last = self.last?;
         let z = self.text.as_bytes();
         if !self.waiting.is_empty() || has_break(z, last, start) {
             return None;
         }
         let ends = kind == CommentKind::Line
-            || self.ends.contains(&last)
+            || self.is_end(last)
             || matches!(byte(z, last.saturating_sub(1)), b'}' | b'{' | b';');
         if ends { Some(last) } else { None }
     }
@@ -120,12 +146,14 @@ impl<'a> Attaching<'a> {
     // What begins at a place: a leaf, a comment, white space or another byte. It answers where that ends.
     fn step(&mut self, at: usize) -> Result<usize, AllocError> {
         let z = self.text.as_bytes();
-        if let Some(end) = self.opaque.get(&at).copied()
-            && end > at
-        {
-            self.token(at, end)?;
-            return Ok(end);
-        }
+        let next = match self.next_opaque(at) {
+            Some((start, end)) if start == at && end > at => {
+                self.token(at, end)?;
+                return Ok(end);
+            }
+            Some((start, _)) if start > at => start,
+            Some(_) | None => self.text.len(),
+        };
         if byte(z, at) == b'/' && byte(z, at.saturating_add(1)) == b'/' {
             let end = past_line(z, at);
             self.attach(CommentKind::Line, at, end, 0)?;
@@ -140,7 +168,7 @@ impl<'a> Attaching<'a> {
         if width > 0 {
             return Ok(at.saturating_add(width));
         }
-        let end = at.saturating_add(1);
+        let end = past_plain(z, at.saturating_add(1), next);
         self.token(at, end)?;
         Ok(end)
     }
@@ -153,8 +181,8 @@ pub fn comments_of(alloc: Global, text: &str, tree: &Tree) -> Result<Comments, A
     let mut attaching = Attaching {
         alloc,
         text,
-        opaque: BTreeMap::new(alloc),
-        ends: BTreeSet::new(alloc),
+        opaque: Vec::new(alloc),
+        ends: Vec::new(alloc),
         leading: BTreeMap::new(alloc),
         trailing: BTreeMap::new(alloc),
         waiting: Vec::new(alloc),
@@ -162,10 +190,14 @@ pub fn comments_of(alloc: Global, text: &str, tree: &Tree) -> Result<Comments, A
     };
     for leaf in leaves {
         if leaf.is_opaque {
-            let _ = attaching.opaque.insert(leaf.start, leaf.end)?;
+            attaching.opaque.push((leaf.start, leaf.end))?;
         }
-        let _ = attaching.ends.insert(leaf.end)?;
+        attaching.ends.push(leaf.end)?;
     }
+    attaching.opaque.sort()?;
+    attaching.opaque.reverse();
+    attaching.ends.sort()?;
+    attaching.ends.reverse();
     let mut at = if text.starts_with("#!") {
         past_line(text.as_bytes(), 0)
     } else {

@@ -26,6 +26,18 @@ pub fn blank(z: &[u8], at: usize) -> usize {
     }
 }
 
+/// The place from one on, or at most a limit, at which white space or a comment may begin.
+pub fn past_plain(z: &[u8], at: usize, limit: usize) -> usize {
+    let mut end = at;
+    for _turn in at..limit {
+        if !matches!(byte(z, end), 33..=46 | 48..=126) {
+            break;
+        }
+        end = end.saturating_add(1);
+    }
+    end
+}
+
 /// Whether a line ends at a place.
 pub fn is_line_end(z: &[u8], at: usize) -> bool {
     match byte(z, at) {

@@ -1,3 +1,4 @@
+-- Inner: no contract of a public call cites what stands here.
 -- Paths below folders, and texts with one `*`, as bytes.
 use Rattle.std.specs.Prelude.{ℕ, ◌==◌, Bool, List, ◌∷◌, ◌++◌, length, if◌then◌else◌}
 use Rattle.std.specs.List.{position_or_len, before_first, after_first}

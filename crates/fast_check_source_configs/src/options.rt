@@ -300,24 +300,58 @@ fn takes(alloc: Global, options: &Options, path: &str) -> Result<bool, AllocErro
     Ok(true)
 }
 
+// The folder in which all files lie that fit a pattern.
+fn top_of(pattern: &str) -> &str {
+    let mut end = pattern.len();
+    for sign in ["*", "?"] {
+        if let Some(at) = pattern.find(sign) {
+            end = end.min(at);
+        }
+    }
+    match pattern.get(..end) {
+        Some(fixed) => folder_of(fixed),
+        None => "",
+    }
+}
+
+// Adds the sources below a folder that a configuration takes.
+fn push_sources(
+    files: &Files<'_>,
+    top: &str,
+    options: &Options,
+    out: &mut BTreeSet<String>,
+) -> Result<(), AllocError> {
+    for path in files.all_below(top, Standing::File)? {
+        if is_source(path.as_str()) && takes(files.alloc(), options, path.as_str())? {
+            let _ = out.insert(path)?;
+        }
+    }
+    Ok(())
+}
+
 /// The sources that a configuration in a folder takes.
 pub fn sources_of(
     files: &Files<'_>,
     folder: &str,
     options: &Options,
-) -> Result<Vec<String>, AllocError> {
-    let alloc = files.alloc();
-    let mut found = Vec::new(alloc);
-    // Where the sources are written one by one, they may lie elsewhere.
-    let top = if options.include.is_some() || options.files.is_some() {
-        ""
-    } else {
-        folder
-    };
-    for path in files.all_below(top, Standing::File)? {
-        if is_source(path.as_str()) && takes(alloc, options, path.as_str())? {
-            found.push(path)?;
+) -> Result<BTreeSet<String>, AllocError> {
+    let mut found = BTreeSet::new(files.alloc());
+    if let Some(listed) = &options.files {
+        for path in listed {
+            if is_source(path.as_str()) && files.is_file(path.as_str())? {
+                let _ = found.insert(path.clone()?)?;
+            }
         }
+    }
+    if let Some(include) = &options.include {
+        let mut tops = BTreeSet::new(files.alloc());
+        for pattern in include {
+            if tops.insert(top_of(pattern.as_str()))? {
+                push_sources(files, top_of(pattern.as_str()), options, &mut found)?;
+            }
+        }
+    } else if options.files.is_none() {
+        push_sources(files, folder, options, &mut found)?;
     }
     Ok(found)
 }

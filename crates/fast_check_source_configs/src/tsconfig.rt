@@ -139,20 +139,28 @@ fn no_project(alloc: Global) -> Project {
     }
 }
 
-// The project of the nearest file above those of a folder.
-fn nearest(files: &Files<'_>, folder: &str) -> Result<Project, AllocError> {
+// The nearest folder from one upwards that has a file, or the outermost one.
+fn nearest<'a>(files: &Files<'_>, folder: &'a str) -> Result<&'a str, AllocError> {
     let alloc = files.alloc();
     let mut at = folder;
-    for _turn in 0..folder.len().saturating_add(1) {
+    for _turn in 0..folder.len() {
         if let Some(file) = below(alloc, at, NAME)?
             && files.is_file(file.as_str())?
         {
-            return with_references(files, file.as_str());
-        }
-        if at.is_empty() {
             break;
         }
         at = folder_of(at);
+    }
+    Ok(at)
+}
+
+// The project of the file of a folder, if it has one.
+fn project_in(files: &Files<'_>, folder: &str) -> Result<Project, AllocError> {
+    let alloc = files.alloc();
+    if let Some(file) = below(alloc, folder, NAME)?
+        && files.is_file(file.as_str())?
+    {
+        return with_references(files, file.as_str());
     }
     Ok(no_project(alloc))
 }
@@ -234,12 +242,24 @@ impl Projects {
         }
     }
 
-    fn of_folder(&mut self, files: &Files<'_>, folder: &str) -> Result<usize, AllocError> {
+    // The place of the project of the file of a folder.
+    fn of_file(&mut self, files: &Files<'_>, folder: &str) -> Result<usize, AllocError> {
         if let Some(found) = self.known.get(folder) {
             return Ok(*found);
         }
         let place = self.projects.len();
-        self.projects.push(nearest(files, folder)?)?;
+        self.projects.push(project_in(files, folder)?)?;
+        let key = String::from_str(files.alloc(), folder)?;
+        let _ = self.known.insert(key, place)?;
+        Ok(place)
+    }
+
+    // The place of the project of the nearest file above those of a folder.
+    fn of_folder(&mut self, files: &Files<'_>, folder: &str) -> Result<usize, AllocError> {
+        if let Some(found) = self.known.get(folder) {
+            return Ok(*found);
+        }
+        let place = self.of_file(files, nearest(files, folder)?)?;
         let key = String::from_str(files.alloc(), folder)?;
         let _ = self.known.insert(key, place)?;
         Ok(place)

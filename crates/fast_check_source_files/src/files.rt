@@ -3,7 +3,7 @@ ghost use Rattle.std.specs.Prelude.{◌≡◌, ◌++◌, IfOk, string_bytes};
 
 use fast_check_tables_diagnostics::parsed_source::MediaType;
 use std::alloc::{AllocError, Global};
-use std::fs;
+use std::fs::{self, Metadata};
 
 const DECLARED: [(&str, MediaType); 3] = [
     (".d.ts", MediaType::Dts),
@@ -38,18 +38,23 @@ pub fn media_type(name: &str) -> MediaType {
 }
 
 // What TypeScript looks for in place of an ending that is written.
+const REPLACED: [(&str, &[&str]); 8] = [
+    (".js", &[".ts", ".tsx", ".d.ts", ".js", ".jsx"]),
+    (".ts", &[".ts", ".tsx", ".d.ts", ".js", ".jsx"]),
+    (".mjs", &[".mts", ".d.mts", ".mjs"]),
+    (".mts", &[".mts", ".d.mts", ".mjs"]),
+    (".cjs", &[".cts", ".d.cts", ".cjs"]),
+    (".cts", &[".cts", ".d.cts", ".cjs"]),
+    (".jsx", &[".tsx", ".ts", ".d.ts", ".jsx", ".js"]),
+    (".tsx", &[".tsx", ".ts", ".d.ts", ".jsx", ".js"]),
+];
+
+// A path without an ending that is replaced, and what TypeScript looks for in its place.
 fn instead(name: &str) -> (&str, &'static [&'static str]) {
-    if let Some(stem) = name.strip_suffix(".js") {
-        return (stem, &[".ts", ".tsx", ".d.ts", ".js", ".jsx"]);
-    }
-    if let Some(stem) = name.strip_suffix(".mjs") {
-        return (stem, &[".mts", ".d.mts", ".mjs"]);
-    }
-    if let Some(stem) = name.strip_suffix(".cjs") {
-        return (stem, &[".cts", ".d.cts", ".cjs"]);
-    }
-    if let Some(stem) = name.strip_suffix(".jsx") {
-        return (stem, &[".tsx", ".ts", ".d.ts", ".jsx", ".js"]);
+    for (ending, others) in REPLACED {
+        if let Some(stem) = name.strip_suffix(ending) {
+            return (stem, others);
+        }
     }
     (name, &[])
 }
@@ -64,6 +69,17 @@ pub enum Standing {
     File,
     /// What is no regular file, as a pipe.
     Other,
+}
+
+// What stands where something was found.
+fn standing_of(found: &Metadata) -> Standing {
+    if found.is_dir() {
+        Standing::Folder
+    } else if found.is_file() {
+        Standing::File
+    } else {
+        Standing::Other
+    }
 }
 
 /// One text behind another.
@@ -156,13 +172,7 @@ impl<'a> Files<'a> {
     pub fn standing(&self, path: &str) -> Result<Standing, AllocError> {
         let name = self.whole(path)?;
         Ok(match fs::metadata(self.rt, name.as_str()) {
-            Ok(found) => if found.is_dir() {
-                Standing::Folder
-            } else if found.is_file() {
-                Standing::File
-            } else {
-                Standing::Other
-            },
+            Ok(found) => standing_of(&found),
             Err(_) => Standing::Nothing,
         })
     }
@@ -295,11 +305,14 @@ impl<'a> Files<'a> {
             let Some(path) = waiting.pop() else {
                 break;
             };
-            let standing = self.standing(path.as_str())?;
-            let is_own = self.is_own(path.as_str())?;
-            if standing == Standing::Folder && is_own {
+            let own = self.own_standing(path.as_str())?;
+            if own == Some(Standing::Folder) {
                 self.push_listed(path.as_str(), &mut waiting)?;
             }
+            let standing = match own {
+                Some(standing) => standing,
+                None => self.standing(path.as_str())?,
+            };
             if standing == wanted {
                 found.push(path)?;
             }
@@ -308,12 +321,16 @@ impl<'a> Files<'a> {
         Ok(found)
     }
 
-    // Whether what stands at a path is no link.
-    fn is_own(&self, path: &str) -> Result<bool, AllocError> {
+    // What stands at a path itself, or none where it is a link.
+    fn own_standing(&self, path: &str) -> Result<Option<Standing>, AllocError> {
         let name = self.whole(path)?;
         Ok(match fs::symlink_metadata(self.rt, name.as_str()) {
-            Ok(found) => !found.is_symlink(),
-            Err(_) => false,
+            Ok(found) => if found.is_symlink() {
+                None
+            } else {
+                Some(standing_of(&found))
+            },
+            Err(_) => Some(Standing::Nothing),
         })
     }
 }

@@ -9,7 +9,7 @@ use fast_check_tree_forms_statements::{
     BlockStmt, ClassDecl, EmptyStmt, ExprStmt, FnDecl, ReturnStmt, TsEnumDecl, TsInterfaceDecl,
     TsModuleDecl, TsTypeAliasDecl, UsingDecl, VarDecl, VarDeclarator,
 };
-use fast_check_tree_syntax::{Items, Kind, Part, Tree};
+use fast_check_tree_syntax::{Items, Kind, Part, SourcePos, SourceRange, Tree};
 use std::alloc::{AllocError, Global};
 use std::collections::BTreeSet;
 
@@ -227,11 +227,15 @@ fn short_statements(alloc: Global, body: Body<'_>) -> Result<Items<Tree>, AllocE
     Ok(made)
 }
 
-fn put_block(edits: &mut Edits, block: Part<'_>, stmts: Items<Tree>) -> Result<(), AllocError> {
-    let BlockStmt { span, ctxt, .. } = BlockStmt::of(block);
+fn put_block(
+    edits: &mut Edits,
+    block: Part<'_>,
+    span: SourceRange,
+    stmts: Items<Tree>,
+) -> Result<(), AllocError> {
     let made = BlockStmt {
         span,
-        ctxt,
+        ctxt: BlockStmt::of(block).ctxt,
         stmts: Tree::list(stmts),
     };
     let tree = made.into_tree(edits.alloc)?;
@@ -244,7 +248,12 @@ pub fn put_body(edits: &mut Edits, body: Body<'_>) -> Result<(), AllocError> {
         return Ok(());
     }
     let stmts = short_statements(edits.alloc, body)?;
-    put_block(edits, body.block, stmts)
+    // No text stands in its place.
+    let span = SourceRange {
+        start: SourcePos(0),
+        end: SourcePos(0),
+    };
+    put_block(edits, body.block, span, stmts)
 }
 
 fn is_super_call(statement: Part<'_>) -> bool {
@@ -266,5 +275,5 @@ pub fn put_constructor(edits: &mut Edits, block: Part<'_>) -> Result<(), AllocEr
             stmts.push(statement.read().to_tree(edits.alloc)?)?;
         }
     }
-    put_block(edits, block, stmts)
+    put_block(edits, block, range_of(block), stmts)
 }

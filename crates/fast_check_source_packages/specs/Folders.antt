@@ -1,3 +1,4 @@
+-- Inner: no contract of a public call cites what stands here.
 -- Which folder a path lies in, as bytes.
 use Rattle.std.specs.Prelude.{◌≡◌, ℕ, List}
 use Rattle.fast_check_source_configs.specs.Paths.{path_inside}

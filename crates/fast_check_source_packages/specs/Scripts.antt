@@ -1,3 +1,4 @@
+-- Inner: no contract of a public call cites what stands here.
 -- Files of JavaScript.
 use Rattle.std.specs.Prelude.{Bool, true, false}
 use Rattle.fast_check_tables_diagnostics.specs.declared.parsed_source.tables.media_type.MediaType.{MediaType}

@@ -9,7 +9,7 @@ use fast_check_source_configs::tsconfig::{Projects, references};
 use fast_check_source_files::files::{Files, Standing, folder_of, joined, media_type, name_of};
 use fast_check_tables_diagnostics::parsed_source::MediaType;
 use std::alloc::{AllocError, Global};
-use std::collections::BTreeMap;
+use std::collections::{BTreeMap, BTreeSet};
 
 // The folders that builds write to.
 const BUILDS: [&str; 12] = [
@@ -296,12 +296,12 @@ fn folder_around<'a>(folder: &'a str, file: &str) -> &'a str {
 }
 
 // The innermost folder that some files lie in.
-fn common_folder(sources: &[String]) -> &str {
+fn common_folder(sources: &BTreeSet<String>) -> &str {
     let Some(first) = sources.first() else {
         return "";
     };
     let mut common = folder_of(first.as_str());
-    for source in sources {
+    for source in sources.iter() {
         common = folder_around(common, source.as_str());
     }
     common
@@ -356,11 +356,11 @@ fn projects_of(files: &Files<'_>, folder: &str) -> Result<Vec<String>, AllocErro
 fn push_below(
     alloc: Global,
     project: &Options,
-    sources: &[String],
+    sources: &BTreeSet<String>,
     root: &str,
     out: &mut BTreeMap<String, String>,
 ) -> Result<(), AllocError> {
-    for source in sources {
+    for source in sources.iter() {
         push_outputs(alloc, source.as_str(), root, project.targets(), out)?;
     }
     Ok(())
@@ -380,11 +380,11 @@ fn push_built(
     let own = folder_of(path);
     let sources = sources_of(files, own, &project)?;
     if let Some(root) = &project.root {
-        return push_below(alloc, &project, sources.as_slice(), root.as_str(), out);
+        return push_below(alloc, &project, &sources, root.as_str(), out);
     }
-    let common = common_folder(sources.as_slice());
-    push_below(alloc, &project, sources.as_slice(), common, out)?;
-    push_below(alloc, &project, sources.as_slice(), own, out)
+    let common = common_folder(&sources);
+    push_below(alloc, &project, &sources, common, out)?;
+    push_below(alloc, &project, &sources, own, out)
 }
 
 /// The sources of a folder by the files that the compiler writes for them.

@@ -1,6 +1,6 @@
 //! The entry points of a package, by the paths of their files.
 use crate::builds::{built_files, file_of, is_unread, sources_of_build};
-use crate::exports::{Entry, expanded, push_entry, written_exports};
+use crate::exports::{Entry, Taken, expanded, push_entry, written_exports};
 use fast_check_source_configs::config::{Config, path_in, quoted, text_of};
 use fast_check_source_configs::paths::{behind, inside};
 use fast_check_source_configs::tsconfig::Projects;
@@ -26,6 +26,8 @@ const NO_ENTRY_POINT: &str = "no-entry-point";
 #[derive(Drop)]
 pub struct Entries {
     pub found: Vec<Entry>,
+    /// What is read in place of what is written.
+    pub taken: Vec<Taken>,
     /// What keeps an entry point from being read.
     pub wrong: Vec<Message>,
     /// What is passed over.
@@ -38,11 +40,25 @@ impl Entries {
     fn new(alloc: Global) -> Entries {
         Entries {
             found: Vec::new(alloc),
+            taken: Vec::new(alloc),
             wrong: Vec::new(alloc),
             passed: Vec::new(alloc),
             errors: Vec::new(alloc),
         }
     }
+}
+
+// Notes which file is read in place of what is written.
+fn push_taken(
+    alloc: Global,
+    written: &str,
+    path: &str,
+    out: &mut Vec<Taken>,
+) -> Result<(), AllocError> {
+    let written = String::from_str(alloc, written)?;
+    let path = String::from_str(alloc, path)?;
+    out.push(Taken { written, path })?;
+    Ok(())
 }
 
 // Where a text stands behind a key.
@@ -193,6 +209,24 @@ impl<'a> Written<'a> {
         )
     }
 
+    // Notes which source is read in place of a file. An entry point with a `*` is written as each file that it stands for.
+    fn take_source(
+        self,
+        alloc: Global,
+        text: &str,
+        wanted: &str,
+        path: &str,
+        out: &mut Vec<Taken>,
+    ) -> Result<(), AllocError> {
+        if text.contains("*")
+            && let Some(own) = behind(wanted, self.folder)
+        {
+            let written = joined(alloc, "./", own)?;
+            return push_taken(alloc, written.as_str(), path, out);
+        }
+        push_taken(alloc, text, path, out)
+    }
+
     // An entry point goes to those that are found, or else what is wrong with it is said. A source may stand for its file.
     fn take(
         self,
@@ -212,8 +246,9 @@ impl<'a> Written<'a> {
         let Some(file) = file_or_source(files, projects, wanted, source)? else {
             return self.say(alloc, text, NO_ENTRY_POINT, " is not there", &mut out.wrong);
         };
-        if source.is_none() {
-            self.warn_of_build(files, projects, text, wanted, out)?;
+        match source {
+            Some(path) => self.take_source(alloc, text, wanted, path, &mut out.taken)?,
+            None => self.warn_of_build(files, projects, text, wanted, out)?,
         }
         self.take_file(alloc, text, entry.key.as_str(), file.as_str(), out)
     }
@@ -268,7 +303,29 @@ impl<'a> Written<'a> {
         if !written.is_empty() {
             self.take_all(files, projects, written.as_slice(), &mut out)?;
         }
+        if out.found.is_empty()
+            && let Some(path) = self.usual(files, projects)?
+        {
+            self.take_usual(alloc, written.as_slice(), path.as_str(), &mut out)?;
+        }
         Ok(out)
+    }
+
+    // Takes a file for the entry point of a package, of which none that is written is there.
+    fn take_usual(
+        self,
+        alloc: Global,
+        written: &[Entry],
+        path: &str,
+        out: &mut Entries,
+    ) -> Result<(), AllocError> {
+        out.wrong.clear();
+        out.passed.clear();
+        out.taken.clear();
+        if let Some(entry) = written.first() {
+            push_taken(alloc, entry.path.as_str(), path, &mut out.taken)?;
+        }
+        push_entry(alloc, ".", path, &mut out.found)
     }
 
     // The file that a configuration names for those who run the package.
@@ -311,14 +368,5 @@ pub fn entry_points(
     folder: &str,
     configs: &[Config],
 ) -> Result<Entries, AllocError> {
-    let written = Written { folder, configs };
-    let mut entries = written.entries(files, projects)?;
-    if entries.found.is_empty()
-        && let Some(path) = written.usual(files, projects)?
-    {
-        entries.wrong.clear();
-        entries.passed.clear();
-        push_entry(files.alloc(), ".", path.as_str(), &mut entries.found)?;
-    }
-    Ok(entries)
+    Written { folder, configs }.entries(files, projects)
 }

@@ -16,6 +16,13 @@ pub struct Entry {
     pub path: String,
 }
 
+/// An entry point as it is written, and the path of the file that is read in its place.
+#[derive(Drop)]
+pub struct Taken {
+    pub written: String,
+    pub path: String,
+}
+
 /// Adds an entry point.
 pub fn push_entry(
     alloc: Global,

@@ -132,7 +132,7 @@ impl<'a> Place<'a> {
         files: &Files<'_>,
         projects: &mut Projects,
         configs: &[Config],
-        found: &[Entry],
+        entries: Entries,
     ) -> Result<Package, AllocError> {
         let alloc = files.alloc();
         let version = match text_of(configs, "version") {
@@ -142,13 +142,15 @@ impl<'a> Place<'a> {
         let folder = String::from_str(alloc, self.folder)?;
         let version = String::from_str(alloc, version)?;
         let name = self.name(files, configs)?;
-        let exports = self.exports(files, projects, found)?;
+        let Entries { found, taken, .. } = entries;
+        let exports = self.exports(files, projects, found.as_slice())?;
         let imports = self.imports(alloc, configs)?;
         Ok(Package {
             folder,
             name,
             version,
             exports,
+            taken,
             imports,
         })
     }
@@ -166,8 +168,8 @@ impl<'a> Place<'a> {
         let configs = configs_of(files, self.folder, &mut own)?;
         let mut entries = entry_points(files, projects, self.folder, configs.as_slice())?;
         if self.tell(alloc, &mut own, &mut entries, messages)? {
-            let found = entries.found.as_slice();
-            out.push(self.package(files, projects, configs.as_slice(), found)?)?;
+            let made = self.package(files, projects, configs.as_slice(), entries)?;
+            out.push(made)?;
         }
         Ok(())
     }

@@ -3,7 +3,7 @@ ghost use Rattle.std.specs.Prelude.{IfSome, string_bytes};
 ghost use Rattle.fast_check_source_packages.specs.Folders.{LiesIn};
 
 use crate::builds::{file_of, is_script};
-use crate::exports::Entry;
+use crate::exports::{Entry, Taken};
 use fast_check_source_configs::comments::self_types;
 use fast_check_source_configs::paths::{behind, rest_of, with_rest};
 use fast_check_source_configs::tsconfig::Projects;
@@ -18,6 +18,8 @@ pub struct Package {
     pub name: String,
     pub version: String,
     pub exports: Vec<Entry>,
+    /// What is read in place of entry points that are written.
+    pub taken: Vec<Taken>,
     /// What names of imports stand for: the path of a file, or nothing where they lead elsewhere.
     pub imports: BTreeMap<String, Option<String>>,
 }

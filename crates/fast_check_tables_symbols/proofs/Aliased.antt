@@ -1,7 +1,7 @@
 -- The places of aliases, as they are noted.
 use Rattle.std.proofs.Common.{◌≡◌, ◌∙◌, sym, ap, refl, subst, ⊎_elim, ℕ, ◌+◌, ◌<◌, ◌≤◌, ◌==◌, Bool, true, false, cond}
 use Rattle.std.proofs.Common.{List, [], ◌∷◌, ◌++◌, map, length, get_or, take, Option, Some, None, arith, string_bytes, String}
-use Rattle.std.specs.Prelude.{◌≢◌, is_some, option_to_list, IsTrue, AllPairs}
+use Rattle.std.specs.Prelude.{◌≢◌, is_some, option_to_list, IsTrue}
 use Rattle.std.specs.List.{Contains, list_any}
 use Rattle.std.specs.BTreeMap.{is_at}
 use Rattle.std.specs.BTreeSet.{BTreeSet, contains, Updates}

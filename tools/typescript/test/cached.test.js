@@ -24,7 +24,7 @@ function editAll(/** @type {string} */ folder) {
 for (const name of SOME) {
   test(`places that move: package ${name}`, () => withFolder(async (folder) => {
     fs.cpSync(path.join(PACKAGES, name), folder, { recursive: true });
-    const ran = async (/** @type {string[]} */ ...words) => Object.values(await run([...words, '.'], { cwd: folder, environment: { XDG_CACHE_HOME: path.join(folder, '.cache') } })).join('\n');
+    const ran = async (/** @type {string[]} */ ...words) => Object.values(await run([...words, '--reader', 'typescript', '.'], { cwd: folder, environment: { XDG_CACHE_HOME: path.join(folder, '.cache') } })).join('\n');
     await ran('check');
     editAll(folder);
     for (const words of [['check', '--json'], ['skeleton']]) same(await ran(...words), await ran(...words, '--no-cache'), words.join(' '));

@@ -1,6 +1,7 @@
 'use strict';
 // Folders as they come: bytes that are no text, odd names, links, configurations that say something else, entry points that lead elsewhere.
 const { test } = require('node:test');
+const { sourceProgramFile } = require('../src/program/program.js');
 const { Converter } = require('../src/tree/from-typescript/converter.js');
 const { run, same, holds, withFolder, write, cases, CONFIG } = require('./support/helpers.js');
 
@@ -137,11 +138,22 @@ const FOLDERS = [
 
 cases(FOLDERS.map(([name, files, wanted, told]) => [`a folder with ${name}`, () => withFolder(async (folder) => {
   write(folder, files);
-  const { status, out, err } = await run(['check', '.'], { cwd: folder });
+  const { status, out, err } = await run(['check', '--reader', 'typescript', '.'], { cwd: folder });
   const text = out + err;
   for (const each of told) holds(each[0] === '!' ? !text.includes(each.slice(1)) : text.includes(each), `${JSON.stringify(each)} and this was told:\n${text}`);
   same(status, wanted, `the status of\n${text}\nthat`);
 })]));
+
+// The program does not hand the tree on as JSON, and so reads deeper.
+const PROGRAM = sourceProgramFile(process.env);
+for (const [name, files] of FOLDERS.filter(([it]) => !it.includes('deep'))) {
+  test(`both readers say the same of a folder with ${name}`, { skip: !PROGRAM && 'fast-check-source is not built' }, () => withFolder(async (folder) => {
+    write(folder, files);
+    const said = async (/** @type {string} */ reader) => (
+      JSON.stringify(await run(['check', '--no-cache', '--reader', reader, '.'], { cwd: folder, environment: { FAST_CHECK_SOURCE: PROGRAM || '' } })));
+    same(await said('source'), await said('typescript'));
+  }));
+}
 
 /** Calls back while the tree of the first package of a workspace cannot be made, by an exception that is no refusal. */
 async function withFault(/** @type {string} */ folder, /** @type {() => Promise<void>} */ call) {
@@ -161,17 +173,17 @@ async function withFault(/** @type {string} */ folder, /** @type {() => Promise<
 }
 
 test('a fault of the tool takes no other messages away', () => withFolder((folder) => withFault(folder, async () => {
-  const { status, out, err } = await run(['check', '.'], { cwd: folder });
+  const { status, out, err } = await run(['check', '--reader', 'typescript', '.'], { cwd: folder });
   same(status, 70, 'the status');
   const text = out + err;
   for (const each of ['error[internal-error]: internal error in folders.test.js:', '(module a/mod.ts): no such form, please report it', '--> b/mod.ts', '1 file, 2 messages']) holds(text.includes(each), text);
-  const json = await run(['check', '--json', '.'], { cwd: folder });
+  const json = await run(['check', '--json', '--reader', 'typescript', '.'], { cwd: folder });
   same(json.status, 70, 'the status');
   const codes = json.out.trim().split('\n').map((line) => JSON.parse(line).code).sort();
   same(codes.join(' '), 'internal-error missing-explicit-return-type');
 })));
 test('a fault of the tool in a package alone', () => withFolder((folder) => withFault(folder, async () => {
-  const { status, out } = await run(['check', '--json', 'a'], { cwd: folder });
+  const { status, out } = await run(['check', '--json', '--reader', 'typescript', 'a'], { cwd: folder });
   same(status, 70, 'the status');
   same(JSON.parse(out).code, 'internal-error');
 })));

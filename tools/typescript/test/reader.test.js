@@ -1,9 +1,15 @@
 'use strict';
-// `--reader source`, with a program in the place of `fast-check-source` that prints the lines which the gate compares the proved one's with.
+// `--reader source`: beside the other reader, with the program itself; and with a program in its place that prints the lines which the gate compares the proved one's with.
+const childProcess = require('child_process');
 const fs = require('fs');
 const path = require('path');
 const { test } = require('node:test');
-const { run, same, holds, withFolder, TOP } = require('./support/helpers.js');
+const { sourceProgramFile } = require('../src/program/program.js');
+const { run, same, holds, readOr, untimed, withFolder, write, LAUNCHER, PACKAGES, TOP } = require('./support/helpers.js');
+const { NAMES: STORED, NEWER, READS_NONE, expectedOf, withoutClosing } = require('./support/stored.js');
+
+const PROGRAM = sourceProgramFile(process.env);
+const skip = !PROGRAM && 'fast-check-source is not built';
 
 const CRATE = path.join(TOP, 'crates/fast_check_source');
 const NAMES = fs.readFileSync(path.join(CRATE, 'args'), 'utf8').trim().split('\n');
@@ -33,11 +39,11 @@ test('skeleton --reader source', async () => {
   same(status, 0, 'the status');
   holds(out.includes('// src/index.ts\n') && out.includes('export const shapes: Shape[]'), out);
 });
-test('a folder that cannot be read', async () => {
-  const said = '{"answers":[],"errors":[{"path":"mod.ts","line":1,"column":8,"code":"syntax-error","message":"this cannot stand here"}],"faults":[],"warnings":[]}';
-  const { status, err } = await runThere(['check', '--reader', 'source', 'other'], `echo '${said}'; exit 2`);
-  same(status, 2, 'the status');
-  holds(err.includes('other/mod.ts:1:8') && err.includes('other cannot be read'), err);
+const REFUSED = '{"answers":[],"errors":[{"path":"mod.ts","line":1,"column":8,"code":"syntax-error","message":"this cannot stand here"}],"faults":[],"warnings":[],"packages":[],"files":[]}';
+test('what the program refuses the compiler reads', async () => {
+  const { status, out } = await runThere(['check', '--reader', 'source', 'other'], `echo '${REFUSED}'; exit 2`);
+  same(status, 1, 'the status');
+  holds(out.includes('error[missing-explicit-return-type]'), out);
 });
 test('a program that fails', async () => {
   const { status, err } = await runThere(['check', '--reader', 'source', 'other'], 'echo "error: out of memory" >&2; exit 3');
@@ -56,3 +62,134 @@ test('a reader that is not there', async () => {
   same(status, 2, 'the status');
   holds(err.includes('there is no reader swc: typescript, source'), err);
 });
+
+test('a program of another version', async () => {
+  const { status, err } = await runThere(['check', '--reader', 'source', 'other'], `echo '{"answers":[],"errors":[],"faults":[],"warnings":[]}'`);
+  same(status, 5, 'the status');
+  holds(err.includes('it is of another version'), err);
+});
+
+// ---- which reader it is
+
+for (const words of [['check', 'other'], ['skeleton', 'other'], ['diff', 'other', 'other']]) {
+  test(`${words[0]} reads by the program where it is there and nothing is kept`, async () => {
+    const body = 'echo "error: out of memory" >&2; exit 3';
+    same((await runThere(words, body)).status, 3, 'the status');
+    holds((await runThere([...words, '--reader', 'typescript'], body)).status < 3, 'the compiler reads too');
+  });
+}
+test('check reads by the compiler where what it reads is kept', () => withFolder(async (folder) => {
+  const [program, environment] = [path.join(folder, 'program'), { XDG_CACHE_HOME: folder }];
+  fs.writeFileSync(program, '#!/bin/sh\nexit 3\n', { mode: 0o755 });
+  same((await run(['check', 'other'], { cwd: path.join(CRATE, 'data'), environment: { ...environment, FAST_CHECK_SOURCE: program } })).status, 1, 'the status');
+}));
+test('check reads by the compiler where the program is not there', () => withFolder(async (folder) => {
+  const program = path.join(folder, 'fast-check');
+  fs.symlinkSync(path.resolve(process.env.FAST_CHECK || ''), program);
+  const asked = { cwd: path.join(CRATE, 'data'), environment: { FAST_CHECK: program } };
+  same((await run(['check', 'other'], asked)).status, 1, 'the status');
+  same((await run(['check', '--reader', 'source', 'other'], asked)).status, 5, 'the status where the program is asked for');
+}));
+
+// ---- beside the other reader
+
+/** What both readers say, by some words. */
+async function bothSay(/** @type {string[]} */ words, /** @type {string} */ cwd) {
+  const environment = { FAST_CHECK_SOURCE: PROGRAM || '' };
+  const said = async (/** @type {string} */ reader) => {
+    const { status, out, err } = await run([...words, '--no-cache', '--reader', reader, '.'], { cwd, environment });
+    return `status ${status}\n${out}$ standard error\n${err}`;
+  };
+  return [await said('source'), await said('typescript')];
+}
+
+test('both readers say the same in diff', { skip }, async () => {
+  for (const [old, now] of [['classes', 'enums'], ['classes', 'classes'], ['workspace', 'workspace-messages']]) {
+    const said = async (/** @type {string} */ reader) => {
+      const { status, out, err } = await run(['diff', '--no-cache', '--reader', reader, old, now], { environment: { FAST_CHECK_SOURCE: PROGRAM || '' } });
+      return `status ${status}\n${out}$ standard error\n${err}`;
+    };
+    same(await said('source'), await said('typescript'), `${old} ${now}`);
+  }
+});
+
+// Forms that an older compiler does not read, and a package that is nested deeper than the JSON that the other reader sends.
+const isReadByOne = (/** @type {string} */ name) => name === 'deep' || (READS_NONE && NEWER.includes(name) && !/const|dts/.test(name));
+const WORDS = [['check'], ['check', '--json'], ['check', '--list-externals', '--format', 'junit'], ['skeleton']];
+for (const name of STORED.filter((it) => !isReadByOne(it))) {
+  test(`both readers say the same of ${name}`, { skip }, async () => {
+    for (const words of WORDS) same(...await bothSay(words, path.join(PACKAGES, name)), words.join(' '));
+  });
+}
+for (const [name, ...words] of [['baseline', '--baseline', 'known.jsonl'], ['several-messages', '--allow', 'missing-explicit-type'], ['ignored', '--no-ignore'], ['ignored', '--format', 'sarif']]) {
+  test(`both readers say the same of ${name} with ${words.join(' ')}`, { skip }, async () => same(...await bothSay(['check', ...words], path.join(PACKAGES, name))));
+}
+for (const name of STORED.filter((it) => isReadByOne(it) && it !== 'deep')) {
+  test(`${name} is read as by a newer compiler`, { skip }, async () => {
+    const [own] = await bothSay(['check'], path.join(PACKAGES, name));
+    const [said] = withoutClosing(own).split('$ standard error');
+    holds(readOr(expectedOf(name, true), '').startsWith(`$ check: ${said}`), said);
+  });
+}
+test('a package that is nested deep is read', { skip }, async () => {
+  const [own] = await bothSay(['check'], path.join(PACKAGES, 'deep'));
+  holds(own.startsWith('status 0\n'), own);
+});
+
+// ---- without a compiler
+
+/** Runs the launcher where no compiler can be found. */
+function runWithout(/** @type {string[]} */ words, /** @type {string} */ cwd) {
+  const env = { ...process.env, FAST_CHECK_SOURCE: PROGRAM || '', TYPESCRIPT: '/nowhere' };
+  const { status, stdout, stderr } = childProcess.spawnSync(LAUNCHER, [...words, '--reader', 'source', '--no-cache', '.'], { cwd, encoding: 'utf8', env });
+  return { status, out: untimed(stdout), err: stderr };
+}
+
+for (const name of ['classes', 're-exports', 'workspace', 'single-returns', 'widened-literals', 'missing-type']) {
+  test(`${name} needs no compiler`, { skip }, async () => {
+    const { status, out, err } = runWithout(['check'], path.join(PACKAGES, name));
+    const other = await run(['check', '--no-cache', '--reader', 'typescript', '.'], { cwd: path.join(PACKAGES, name) });
+    same(err, '', 'standard error');
+    same(`${status} ${out}`, `${other.status} ${other.out}`);
+  });
+}
+test('hints are those of the program where there is no compiler', { skip }, () => {
+  const { status, out, err } = runWithout(['check'], path.join(PACKAGES, 'async-hints'));
+  same(`${status} ${err}`, '1 ');
+  holds(out.includes("= hint: add an explicit return type of 'Promise<void>'") || out.includes("= hint: add an explicit return type of 'void'"), out);
+});
+test('a configuration with comments needs no compiler', { skip }, () => withFolder((folder) => {
+  const config = '// a package\n{ "name": "@test/odd", "version": "1.0.0", /* where it begins */ "exports": { ".": "./mod.ts", }, }';
+  write(folder, { 'deno.json': null, 'deno.jsonc': config, 'mod.ts': 'export const one: number = 1;\n' });
+  fs.rmSync(path.join(folder, 'deno.json'), { force: true });
+  const { status, out, err } = runWithout(['check'], folder);
+  same(`${status} ${err}`, '0 ');
+  holds(out.includes('1 file, 1 public module, 0 messages'), out);
+}));
+test('what is wrong is said by the program where there is no compiler', { skip }, () => withFolder((folder) => {
+  write(folder, { 'mod.ts': 'export const = 1;\n' });
+  const { status, err } = runWithout(['check'], folder);
+  same(status, 2, 'the status');
+  holds(err.includes('mod.ts:1:14') && err.includes('this cannot stand here'), err);
+}));
+
+// ---- without Node
+
+/** Runs the program in a root that has its C library and a package, and nothing else. */
+function runInRoot(/** @type {string} */ root, /** @type {string} */ program) {
+  const libraries = childProcess.execFileSync('ldd', [program], { encoding: 'utf8' }).match(/\/\S+/g) || [];
+  for (const file of libraries) {
+    fs.mkdirSync(path.join(root, path.dirname(file)), { recursive: true });
+    fs.copyFileSync(file, path.join(root, file));
+  }
+  fs.copyFileSync(program, path.join(root, 'fast-check-source'));
+  fs.cpSync(path.join(TOP, 'examples/package'), path.join(root, 'package'), { recursive: true });
+  return childProcess.spawnSync('unshare', ['--map-root-user', 'chroot', root, '/fast-check-source', '/package'], { encoding: 'utf8' });
+}
+
+const mayUnshare = childProcess.spawnSync('unshare', ['--map-root-user', 'true']).status === 0;
+test('the example of the README is answered without Node and without TypeScript', { skip: skip || (!mayUnshare && 'no root can be made') }, () => withFolder((root) => {
+  const { status, stdout, stderr } = runInRoot(root, PROGRAM || '');
+  same(`${status} ${stderr}`, '1 ');
+  same(stdout, fs.readFileSync(path.join(__dirname, 'expected/source/example.json'), 'utf8'));
+}));

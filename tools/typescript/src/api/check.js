@@ -4,6 +4,7 @@ const path = require('path');
 const { analyse, answersTo, part, statusOf } = require('../program/answer.js');
 const { withoutAllowed, withoutSettledBaselines } = require('../messages/allow.js');
 const { refusalOf } = require('../cli/exit.js');
+const { NO_COMPILER } = require('../compiler/find.js');
 const { withoutNamedReturns } = require('../tables/asserted-types.js');
 
 /** @typedef {import('../program/types').RunContext} RunContext */
@@ -55,16 +56,34 @@ function isAsked(/** @type {Set<string> | undefined} */ only, /** @type {{ cwd: 
  * @returns {Promise<number>}
  */
 async function singleReturnsOf(/** @type {World} */ world, /** @type {Options} */ options, /** @type {Context} */ context) {
-  if (!isCounted(options) || !world.info.modules.some(({ parts }) => parts && parts.marks.namesReturns)) return 0;
+  if (!isCounted(options) || !world.info.modules.some(namesReturns)) return 0;
+  if (world.isBySource) return singleReturnsBySource(world, options, context);
   const asked = (/** @type {Message[]} */ messages) => messages.filter(({ code }) => code === 'missing-explicit-return-type').map(({ file, start }) => `${file} ${start}`);
   const known = new Set(asked(world.messages));
   const { messages } = part(await answersTo(withoutNamedReturns(world.request), options, context, { ...world, name: 'named' }), world, context.cwd);
   return asked(messages).filter((each) => !known.has(each)).length;
 }
 
+/** Whether a body of a module names its return type by its only return. */
+function namesReturns(/** @type {import('../package/types').Module} */ { parts, namesReturns: isSaid }) {
+  return isSaid || Boolean(parts && parts.marks.namesReturns);
+}
+
+/** The same of a folder that the program reads itself: its skeletons have these types, and where some are missing the compiler's reader is asked. */
+async function singleReturnsBySource(/** @type {World} */ world, /** @type {Options} */ options, /** @type {Context} */ context) {
+  const { namedReturnsIn } = require('../skeleton/named-returns.js');
+  if (world.messages.every(({ level }) => level === 'Warning')) return namedReturnsIn(world);
+  try {
+    return await singleReturnsOf(await analyse(world.dir, { ...options, reader: 'typescript' }, context), options, context);
+  } catch (error) {
+    if (/** @type {import('../cli/types').KnownError} */ (error).code === NO_COMPILER) return 0;
+    throw error;
+  }
+}
+
 /** Whether the last line of a check says how many return types single returns name. */
-function isCounted(/** @type {Options} */ { rules, format, quiet, reader }) {
-  return reader !== 'source' && rules !== 'deno' && (format === undefined || format === 'text') && !quiet;
+function isCounted(/** @type {Options} */ { rules, format, quiet }) {
+  return rules !== 'deno' && (format === undefined || format === 'text') && !quiet;
 }
 
 /**

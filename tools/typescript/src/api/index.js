@@ -3,6 +3,7 @@
 const fs = require('fs');
 const path = require('path');
 const { resultOf: checkedFolder } = require('./check.js');
+const { EITHER } = require('../program/program.js');
 const { skeletonsOf } = require('./skeletons.js');
 const { VERSION } = require('../cli/installed.js');
 const { Progress } = require('../cli/progress.js');
@@ -27,7 +28,7 @@ const { analyse } = require('../program/answer.js');
  * @returns {AnalyseOptions}
  */
 function optionsOf(/** @type {Given} */ { name, version, exports: entries, cache = true, ownCompiler = true, allow, comments = true, rules, verify, texts }) {
-  return { name, version, exports: entries, noCache: !cache, noOwnCompiler: !ownCompiler, allow, noIgnore: !comments, rules, verify, texts };
+  return { name, version, exports: entries, noCache: !cache, noOwnCompiler: !ownCompiler, allow, noIgnore: !comments, rules, verify, texts, reader: EITHER };
 }
 
 /**
@@ -45,7 +46,7 @@ async function within(dir, given, call) {
   const folder = path.resolve(dir);
   if (!fs.existsSync(folder) || !fs.statSync(folder).isDirectory()) throw Object.assign(new Error(`there is no folder ${dir}`), { status: 2 });
   const options = optionsOf(given);
-  const environment = given.program ? { ...process.env, FAST_CHECK: given.program } : process.env;
+  const environment = given.program ? { ...process.env, FAST_CHECK: given.program, FAST_CHECK_SOURCE: undefined } : process.env;
   if (!options.noOwnCompiler) lookIn(folder);
   const kept = keptFor(options, environment);
   const context = { cwd: folder, environment, signal: given.signal, progress: new Progress({ write() {} }, false) };

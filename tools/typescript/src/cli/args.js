@@ -1,6 +1,7 @@
 'use strict';
 // The words of the command line.
 const { CODES, isCode, mayBeAllowed } = require('../messages/codes.js');
+const { EITHER } = require('../program/program.js');
 const { COMMANDS, OPTIONS } = require('./options.js');
 
 /** @typedef {import('./types').Options} Options */
@@ -10,8 +11,10 @@ const BY_WORD = new Map(OPTIONS.flatMap((it) => [it.word, ...(it.also || [])].ma
 const FORMATS = ['text', 'json', 'github', 'sarif', 'junit', 'badge'];
 const RULES = ['deno'];
 const READERS = ['typescript', 'source'];
+// Commands that read by the program that reads TypeScript, where it is there and nothing else is asked for.
+const BY_EITHER = ['check', 'skeleton', 'diff'];
 // Options that need what this tool reads by itself.
-const BY_TYPESCRIPT = ['name', 'version', 'exports', 'rules', 'only', 'fix', 'verify', 'externals', 'dts', 'withDts'];
+const BY_TYPESCRIPT = ['name', 'version', 'exports', 'rules', 'verify', 'dts', 'withDts', 'watch'];
 // Those that are one document, which a run that goes on has no end of.
 const DOCUMENTS = ['sarif', 'junit', 'badge'];
 
@@ -159,6 +162,7 @@ function parse(words) {
     if (value !== undefined) given[key] = Array.isArray(value) ? value.map(read) : read(String(value));
   }
   if (options.json && command === 'check') options.format = 'json';
+  if (BY_EITHER.includes(command)) options.reader = options.reader || EITHER;
   return { command, rest: rest.length || !most ? rest : ['.'], options };
 }
 

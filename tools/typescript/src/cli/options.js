@@ -85,8 +85,8 @@ const OPTIONS = [
   },
   { word: '--rules', value: 'RULES', key: 'rules', commands: ['check'], text: 'check: deno reports what deno_graph 0.111.1 does, for which a single return names no return type' },
   {
-    word: '--reader', value: 'READER', key: 'reader', commands: ['check', 'skeleton'],
-    text: "check and skeleton: source reads TypeScript by a program that is proved, and typescript, which is usual, by TypeScript's compiler",
+    word: '--reader', value: 'READER', key: 'reader', commands: ['check', 'skeleton', 'diff'],
+    text: "check, skeleton and diff: source reads TypeScript by a program that is proved, which is usual where nothing is kept, and typescript by TypeScript's compiler",
   },
   { word: '--only', key: 'only', commands: ['check'], text: 'check: take the words for files, and report the messages of these alone, by the entry points of their packages' },
   { word: '--fix', key: 'fix', commands: ['check'], text: "check: write the types that TypeScript's compiler infers first, as the command fix does" },
@@ -134,7 +134,7 @@ The variable FAST_CHECK names a program to run in place of ${isClone ? './fast-c
 
 /** The text of an option for one command, without the name of the command before it. */
 function textFor(/** @type {Option} */ { text, commands }) {
-  return commands === ALL || commands === READING ? text : text.replace(/^[a-z]+(?: and [a-z]+)?: /, '');
+  return commands === ALL || commands === READING ? text : text.replace(/^[a-z]+(?:, [a-z]+)*(?: and [a-z]+)?: /, '');
 }
 
 /** Words in lines that a terminal holds. */

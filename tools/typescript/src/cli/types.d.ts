@@ -81,6 +81,7 @@ export interface Context extends Io {
   /** What stands for the seconds of this run. */
   clock?: string;
   reading?<T>(call: () => T): T;
+  beside?(folder: string, begun: number): void;
   isNewerNamed?: boolean;
   isCommand?: boolean;
   signal?: AbortSignal;

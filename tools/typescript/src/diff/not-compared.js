@@ -83,8 +83,11 @@ function differing(/** @type {Map<string, unknown>} */ old, /** @type {Map<strin
 }
 
 function additionReasons(/** @type {World} */ before, /** @type {World} */ after) {
-  const [old, now] = [before, after].map((world) => textsOf(world, world.info.modules.filter(addsElsewhere)));
-  return differing(old, now).map((name) => `${name} differs, which declares what is global or belongs to other modules`);
+  const [old, now] = [before, after].map((world) => textsOf(world, world.info.modules));
+  const others = new Set(differing(old, now));
+  const adding = (/** @type {World} */ world) => world.info.modules.filter((it) => others.has(fileOf(world, it.specifier)) && addsElsewhere(it)).map((it) => fileOf(world, it.specifier));
+  const names = new Set([before, after].flatMap(adding));
+  return [...names].sort().map((name) => `${name} differs, which declares what is global or belongs to other modules`);
 }
 
 function referenceReasons(/** @type {World} */ before, /** @type {World} */ after) {

@@ -273,7 +273,7 @@ class Fixer {
   }
 
   analyse() {
-    return analyse(this.dir, { ...this.options, texts: this.texts }, this.context);
+    return analyse(this.dir, { ...this.options, reader: 'typescript', texts: this.texts }, this.context);
   }
 
   textsOf(/** @type {World} */ world) {

@@ -433,6 +433,48 @@ function isNoPackage(/** @type {ConfiguredPackage} */ { dir, exports }, /** @typ
 }
 
 /**
+ * The settings of a package. Of those of strangers none counts.
+ *
+ * @returns {{ exports?: Exports, allow?: string[], baseline?: string }}
+ */
+function settingsOf(/** @type {Config} */ written, /** @type {Pick<ReadOptions, 'noIgnore'>} */ { noIgnore }) {
+  return (!noIgnore && written.nagdrez) || {};
+}
+
+/** The configuration of a package with the entry points of its settings. */
+function ownOf(/** @type {Config} */ written, /** @type {Pick<ReadOptions, 'noIgnore'>} */ options) {
+  const { exports } = settingsOf(written, options);
+  return exports === undefined ? written : { ...written, exports };
+}
+
+/**
+ * A package as its configuration says it, but for its entry points. `top` is the folder that was named.
+ *
+ * @param {string} folder
+ * @param {Config} written
+ * @param {{ dir: string, config: Config }} top
+ * @param {Pick<ReadOptions, 'name' | 'version'>} given what is given in place of what is written
+ * @param {Pick<ReadOptions, 'noIgnore'>} options
+ */
+function described(folder, written, top, given, options) {
+  const { allow = [], baseline } = settingsOf(written, options);
+  const version = given.version || written.version;
+  const isVersioned = version !== undefined && VERSION.test(version);
+  return {
+    name: given.name || written.name || path.basename(folder),
+    version: version !== undefined && isVersioned ? version : '0.0.0',
+    isVersioned,
+    ranges: { ...rangesOf(top.config), ...rangesOf(written) },
+    dir: folder,
+    allow,
+    baseline: baseline === undefined ? null : path.resolve(folder, baseline),
+    imports: { ...importsOf(top.dir, top.config), ...importsOf(folder, written) },
+    dependencies: new Set([...dependenciesOf(top.config), ...dependenciesOf(written)]),
+    needed: [...new Set([...mappedOut(top.config), ...mappedOut(written), ...dependenciesOf(written, NEEDED)])],
+  };
+}
+
+/**
  * The packages of a folder. `context` has what looks files up, and lists that are filled: what keeps a package from being read (`errors`), what is wrong with
  * one that is read (`faults`), and which entry points are taken in place of those that are written (`taken`). Where it `isQuiet`, no places are looked for.
  *
@@ -445,26 +487,10 @@ function packagesOf(/** @type {string} */ dir, /** @type {ReadOptions} */ option
   if (errors.length) return [];
   const found = folders.map((folder) => {
     const written = folder === dir ? config : configOf(folder, files, errors);
-    // Of packages of strangers no setting counts.
-    const settings = (!options.noIgnore && written.nagdrez) || {};
-    const own = settings.exports === undefined ? written : { ...written, exports: settings.exports };
     const given = folder === dir ? options : {};
-    const version = given.version || own.version;
-    return {
-      name: given.name || own.name || path.basename(folder),
-      version: version !== undefined && VERSION.test(version) ? version : '0.0.0',
-      isVersioned: version !== undefined && VERSION.test(version),
-      ranges: { ...rangesOf(config), ...rangesOf(own) },
-      dir: folder,
-      allow: settings.allow || [],
-      baseline: settings.baseline === undefined ? null : path.resolve(folder, settings.baseline),
-      imports: { ...importsOf(dir, config), ...importsOf(folder, own) },
-      dependencies: new Set([...dependenciesOf(config), ...dependenciesOf(own)]),
-      needed: [...new Set([...mappedOut(config), ...mappedOut(own), ...dependenciesOf(own, NEEDED)])],
-      exports: entryPoints(folder, own, given.exports, context),
-    };
+    return { ...described(folder, written, { dir, config }, given, options), exports: entryPoints(folder, ownOf(written, options), given.exports, context) };
   });
   return found.filter((it) => !isNoPackage(it, dir, config, context));
 }
 
-module.exports = { configOf, membersOf, packagesOf };
+module.exports = { configOf, described, membersOf, packagesOf, settingsOf };

@@ -154,17 +154,29 @@ function rewriteTexts(/** @type {Map<string, string>} */ texts) {
   }
 }
 
+const TEXT = '"(?:[^"\\\\\\n\\r]|\\\\.)*"';
+const COMMENT = new RegExp(`${TEXT}|//[^\\n\\r]*|/\\*[^]*?\\*/`, 'g');
+const LAST_COMMA = new RegExp(`${TEXT}|(?<=[^\\s[{,]\\s*),(?=\\s*[}\\]])`, 'g');
+
+/** A text of JSON without its comments, and without commas that end a list. */
+function plainJson(/** @type {string} */ text) {
+  const kept = (/** @type {string} */ it) => (it.startsWith('"') ? it : it.startsWith(',') ? '' : ' ');
+  return text.replace(COMMENT, kept).replace(LAST_COMMA, kept);
+}
+
 /**
  * The object in a text of JSON, which may have comments and commas that end a list: `{config, error}`, as the compiler reads it.
  *
  * @returns {{ config?: Record<string, unknown>, error?: ts.Diagnostic }}
  */
 function readJson(/** @type {string} */ file, /** @type {string} */ text) {
-  try {
-    const config = JSON.parse(text);
-    if (config !== null && typeof config === 'object' && !Array.isArray(config)) return { config };
-  } catch {
-    // The compiler says where.
+  for (const made of [() => text, () => plainJson(text)]) {
+    try {
+      const config = JSON.parse(made());
+      if (config !== null && typeof config === 'object' && !Array.isArray(config)) return { config };
+    } catch {
+      // The compiler says where.
+    }
   }
   return typescript.ts.parseConfigFileTextToJson(file, text);
 }

@@ -30,6 +30,23 @@ function urlPath(/** @type {string} */ folder, /** @type {string} */ file) {
   return path.relative(folder, file).split(path.sep).map(encodeURIComponent).join('/').replace(/%40/g, '@');
 }
 
+/**
+ * A package that was read, by the keys and the files of its entry points.
+ *
+ * @param {Omit<ConfiguredPackage, 'exports'>} package
+ * @param {[key: string, file: string][]} entries
+ * @param {string} root
+ * @returns {import('./types').Package}
+ */
+function withUrls({ imports, dependencies, ...own }, entries, root) {
+  return {
+    ...own,
+    exports: entries.map(([key, file]) => /** @type {[string, string]} */ ([key, `./${urlPath(own.dir, file)}`])),
+    entryPoints: entries.map(([, file]) => urlOf(root, file)),
+    url: own.dir === root ? 'file:///' : `${urlOf(root, own.dir)}/`,
+  };
+}
+
 class Reader {
   constructor(/** @type {string} */ dir, /** @type {ReadOptions} */ options) {
     this.root = path.resolve(dir);
@@ -183,19 +200,7 @@ function readPackage(/** @type {string} */ dir, /** @type {ReadOptions} */ optio
   const reader = new Reader(dir, options);
   reader.read();
   reader.answers.keep();
-  const packages = reader.packages.map((it) => ({
-    name: it.name,
-    version: it.version,
-    isVersioned: it.isVersioned,
-    ranges: it.ranges,
-    dir: it.dir,
-    allow: it.allow,
-    baseline: it.baseline,
-    needed: it.needed,
-    exports: reader.resolver.entriesOf(it).map(([key, file]) => /** @type {[string, string]} */ ([key, `./${urlPath(it.dir, file)}`])),
-    entryPoints: reader.resolver.entriesOf(it).map(([, file]) => urlOf(reader.root, file)),
-    url: it.dir === reader.root ? 'file:///' : `${urlOf(reader.root, it.dir)}/`,
-  }));
+  const packages = reader.packages.map((it) => withUrls(it, reader.resolver.entriesOf(it), reader.root));
   return {
     packages,
     modules: [...reader.modules.values()],
@@ -219,4 +224,4 @@ function resolverOf(/** @type {string} */ dir, /** @type {string[]} */ members) 
   return (/** @type {string} */ from, /** @type {string} */ text) => reader.resolver.resolve(from, text);
 }
 
-module.exports = { packageName, readPackage, resolverOf };
+module.exports = { packageName, readPackage, resolverOf, urlOf, withUrls };

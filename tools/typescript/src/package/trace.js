@@ -51,6 +51,20 @@ const CALLS = [
   ['readdirSync', ['names']],
 ];
 
+// What another process does not look into, and up to how many folders and configurations are remembered of what it reads.
+const PASSED_OVER = new Set(['node_modules', '.git']);
+const MOST = 4000;
+// What it reads beside sources.
+const CONFIGURATION = /\.jsonc?$|^pnpm-workspace\.yaml$/;
+// For how many milliseconds the time of a file may lie behind the clock.
+const LAG = 20;
+
+/** Whether something was as it is before a time. */
+function isOlder(/** @type {string} */ file, /** @type {number} */ time) {
+  const found = fs.lstatSync(file, { throwIfNoEntry: false });
+  return Boolean(found && Math.max(found.mtimeMs, found.ctimeMs) < time - LAG);
+}
+
 /** What is asked while some calls are made. `without` are folders of which nothing is remembered, as that of the tool. */
 class Trace {
   constructor(/** @type {string[]} */ without) {
@@ -59,6 +73,8 @@ class Trace {
     this.all = new Map();
     /** @type {Map<number, string>} */
     this.opened = new Map();
+    /** Whether all that was read is remembered as it was read. */
+    this.isWhole = true;
   }
 
   /** @returns {Asked[]} */
@@ -73,6 +89,36 @@ class Trace {
     const key = `${question} ${file}`;
     if (this.all.has(key) || this.without.some((it) => file.startsWith(it))) return;
     this.all.set(key, [question, file, answer(question, file)]);
+  }
+
+  /**
+   * Remembers what another process that began at a time may have asked of a folder: which names stand there, where links lead, and configurations. The sources that it
+   * has read are asked for already.
+   */
+  beside(/** @type {string} */ root, /** @type {number} */ begun) {
+    const waiting = [root];
+    let left = MOST;
+    this.note('real', root);
+    for (let folder = waiting.pop(); folder !== undefined && left > 0; folder = waiting.pop()) {
+      this.note('names', folder);
+      left -= 1;
+      for (const it of original.readdirSync(folder, { withFileTypes: true })) {
+        const file = path.join(folder, it.name);
+        if (it.isDirectory() && !PASSED_OVER.has(it.name)) waiting.push(file);
+        else if (it.isSymbolicLink()) this.noteLink(file);
+        else if (CONFIGURATION.test(it.name)) this.note('text', file);
+        else continue;
+        left -= 1;
+      }
+    }
+    const isSettled = () => this.asked.every(([question, file, answer]) => question === 'kind' || answer.startsWith('!') || isOlder(file, begun));
+    this.isWhole = this.isWhole && left > 0 && isSettled();
+  }
+
+  noteLink(/** @type {string} */ file) {
+    this.note('real', file);
+    this.note('kind', file);
+    if (CONFIGURATION.test(file)) this.note('text', file);
   }
 
   /**

@@ -119,6 +119,8 @@ export interface Module extends Script {
   /** Under what its parts are kept. */
   key?: string;
   sourceFile?: ts.SourceFile;
+  /** Of one that the program reads: whether a body names its return type by its only return. */
+  namesReturns?: boolean;
 }
 
 /** An import that leads out of the folder. */

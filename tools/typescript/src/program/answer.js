@@ -3,7 +3,8 @@
 const fs = require('fs');
 const path = require('path');
 const { readBySource } = require('./by-source.js');
-const { lineOf } = require('./run.js');
+const { EITHER, sourceProgramFile } = require('./program.js');
+const { ProgramError, lineOf } = require('./run.js');
 const { INTERNAL } = require('../cli/exit.js');
 const { NEWEST } = require('../cli/installed.js');
 const { isInside, readText } = require('../package/files.js');
@@ -17,6 +18,7 @@ const { withTreesOf } = require('./request.js');
 const { variantOf } = require('../tree/walk.js');
 const { previewOf } = require('./preview.js');
 const { skeletonMessages } = require('../skeleton/messages.js');
+const { NO_COMPILER, candidateFiles } = require('../compiler/find.js');
 const typescript = require('../compiler/typescript.js');
 
 /** @typedef {import('../messages/types').Message} Message */
@@ -287,6 +289,23 @@ function specifiersOf(/** @type {Pick<ReadFolder, 'files'>} */ { files }, /** @t
 }
 
 /**
+ * A folder that was read with the program's answers: `messages` are those of packages that can be read.
+ *
+ * @param {ReadFolder} world
+ * @param {Answer[]} answers
+ * @param {{ cwd: string }} context
+ * @returns {World}
+ */
+function withAnswers(world, answers, { cwd }) {
+  const { skeletons, messages } = part(answers, world, cwd);
+  const told = skeletonMessages({ ...world, skeletons }, (/** @type {string} */ file) => shownName(file, cwd));
+  const [warnings, errors] = [true, false].map((isWarning) => told.filter(({ level }) => (level === 'Warning') === isWarning));
+  const faulty = [...world.info.faults.filter((it) => it.level !== 'Warning').map((it) => it.path), ...[...world.lost, ...errors].flatMap((it) => world.files.get(it.specifier || '') || []).map((it) => it.path)];
+  const left = withoutFaulty({ ...world, skeletons }, faulty);
+  return { ...world, answers, skeletons: left, warnings: [...world.warnings, ...warnings], messages: [...world.faults, ...world.lost, ...messages, ...errors] };
+}
+
+/**
  * Reads a folder and runs the program on it. `broken` says why packages of it cannot be read; `messages` are of the others. With `treesOf`, a
  * set of paths, only messages of these files are complete (`withTreesOf`).
  *
@@ -296,39 +315,77 @@ function specifiersOf(/** @type {Pick<ReadFolder, 'files'>} */ { files }, /** @t
  * @returns {Promise<World>}
  */
 async function analyse(dir, options, context) {
-  if (options.reader === 'source') return analyseBySource(dir, context);
-  const { cwd } = context;
+  const program = sourceProgram(options, context);
+  return program ? analyseBySource(program, dir, options, context) : analyseByCompiler(dir, options, context);
+}
+
+/**
+ * The same by the compiler's reader.
+ *
+ * @param {string} dir
+ * @param {AnalyseOptions} options
+ * @param {RunContext} context
+ * @returns {Promise<World>}
+ */
+async function analyseByCompiler(dir, options, context) {
   const reading = context.reading || ((call) => call());
   const world = reading(() => read(dir, options, context));
   if (options.treesOf && world.request) world.request = withTreesOf(world.request, specifiersOf(world, options.treesOf));
   const ask = (/** @type {Request} */ request, /** @type {string | null} */ name = null) => answersTo(request, options, context, { ...world, name });
-  const answers = await ask(world.request, options.treesOf ? null : 'all');
-  const { skeletons, messages } = part(answers, world, cwd);
-  const told = skeletonMessages({ ...world, skeletons }, (/** @type {string} */ file) => shownName(file, cwd));
-  const [warnings, errors] = [true, false].map((isWarning) => told.filter(({ level }) => (level === 'Warning') === isWarning));
-  const faulty = [...world.info.faults.filter((it) => it.level !== 'Warning').map((it) => it.path), ...[...world.lost, ...errors].flatMap((it) => world.files.get(it.specifier || '') || []).map((it) => it.path)];
-  const left = withoutFaulty({ ...world, skeletons }, faulty);
-  const made = { ...world, answers, skeletons: left, warnings: [...world.warnings, ...warnings], messages: [...world.faults, ...world.lost, ...messages, ...errors] };
+  const made = withAnswers(world, await ask(world.request, options.treesOf ? null : 'all'), context);
   return options.preview ? { ...made, preview: await previewFor(made, ask) } : made;
 }
 
-/** A request of a folder that the program reads itself. */
-const NO_REQUEST = { graph: { modules: [], resolutions: [], packages: [] }, modules: [], aliases: [], workspace_members: [], provider: { packages: [], fallback: '' }, pending: [], first: false };
+// What is asked of a folder that its files do not say, or of trees. A watched folder is read again and again, for which the compiler's trees are kept.
+/** @type {(keyof AnalyseOptions)[]} */
+const BY_COMPILER = ['name', 'version', 'exports', 'rules', 'texts', 'within', 'treesOf', 'members', 'keepSourceFiles', 'verify', 'dts', 'withDts', 'watch'];
+
+/** The program that reads folders, where it is to; null where the compiler is. Where both may, the compiler's reader does what it keeps for later runs, which take less by it. */
+function sourceProgram(/** @type {AnalyseOptions} */ options, /** @type {RunContext} */ { environment }) {
+  const { reader = 'typescript' } = options;
+  if (reader === 'typescript' || BY_COMPILER.some((it) => options[it])) return null;
+  if (reader === EITHER && options.kept && options.kept.folder && candidateFiles().length) return null;
+  const program = sourceProgramFile(environment);
+  if (program || reader === EITHER) return program;
+  throw new ProgramError('there is no fast-check-source beside the other program, and the variable FAST_CHECK_SOURCE names none', 5);
+}
 
 /**
- * The same by the program that reads the folder itself. Where something is wrong with a package that no module shows, there are no skeletons.
+ * The same by the program that reads the folder itself. What it cannot say by the compiler's words is asked of the compiler: what is wrong with configurations, imports
+ * and syntax, and a preview.
  *
+ * @param {string} program
+ * @param {string} dir
+ * @param {AnalyseOptions} options
+ * @param {RunContext} context
  * @returns {Promise<World>}
  */
-async function analyseBySource(/** @type {string} */ dir, /** @type {RunContext} */ context) {
+async function analyseBySource(program, dir, options, context) {
   const { cwd } = context;
-  const { answers, files, info, told } = await readBySource(dir, context);
-  const sources = new Map([...files.values()].map((file) => [file.path, file]));
-  const [broken, faults, warnings] = [info.errors, info.faults, told].map((all) => all.map((error) => readMessage(error, cwd, sources)));
-  if (!answers.length && broken.length) throw new ReadError(`${shownName(dir, cwd)} cannot be read`, [...broken, ...faults]);
-  const { skeletons, messages } = part(answers, { files, dir, info }, cwd);
-  const world = { dir, request: NO_REQUEST, info, files, warnings, broken, faults, lost: [], answers, skeletons: faults.length ? new Map() : skeletons, preview: null };
-  return { ...world, messages: [...faults, ...messages] };
+  const { answers, told, info, request } = await readBySource(program, dir, options, context);
+  /** @type {World | null} */
+  let own = null;
+  if (info) {
+    const read = { dir, request, info, files: filesOf(info, dir), warnings: [], broken: [], faults: [], lost: [] };
+    own = { ...withAnswers(read, answers, context), isBySource: true };
+    if (!options.preview || own.messages.every(({ level }) => level === 'Warning')) return own;
+  }
+  try {
+    return await analyseByCompiler(dir, options, context);
+  } catch (error) {
+    const { code } = /** @type {import('../cli/types').KnownError} */ (error);
+    if (own && (code === NO_COMPILER || error instanceof ReadError)) return own;
+    if (code !== NO_COMPILER) throw error;
+    throw new ReadError(`${shownName(dir, cwd)} cannot be read`, saidMessages(told, dir, cwd));
+  }
+}
+
+/** What the program says of a folder, as messages. */
+function saidMessages(/** @type {import('./by-source.js').Told} */ { errors, faults, warnings }, /** @type {string} */ dir, /** @type {string} */ cwd) {
+  const all = [...errors, ...faults, ...warnings].map((it) => ({ ...it, path: path.join(dir, it.path) }));
+  const texts = new Map(all.filter((it) => it.line && fs.existsSync(it.path)).map(({ path: file }) => [file, readText(file).text]));
+  const files = new Map([...texts].map(([file, text]) => [file, /** @type {SourceFile} */ ({ path: file, text, lines: new Lines(text) })]));
+  return all.map((error) => readMessage(error, cwd, files));
 }
 
 /** The preview of the packages that have no skeletons, since they have messages; null where there are none, or nothing can be shown. */

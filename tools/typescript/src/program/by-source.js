@@ -1,75 +1,182 @@
 'use strict';
-// What the program `fast-check-source` answers of a folder: it reads TypeScript itself, and neither the compiler nor the reader of this tool takes part.
-const fs = require('fs');
+// What the program `fast-check-source` answers of a folder: it reads TypeScript itself, and the compiler takes no part.
 const path = require('path');
+const { answersOf } = require('./answers.js');
 const { ProgramError, run } = require('./run.js');
-const { PROGRAM } = require('../cli/installed.js');
-const { readText } = require('../package/files.js');
+const { NO_COMPILER } = require('../compiler/find.js');
+const { configOf, described, settingsOf } = require('../package/config.js');
+const { isDeclarationFile, isJavaScript, mediaTypeOf, readText } = require('../package/files.js');
+const { urlOf, withUrls } = require('../package/read.js');
+const { Lookup, RELATIVE, Resolver, SCHEME, packageName } = require('../package/resolve.js');
+const { refersTo } = require('../skeleton/effects.js');
 const { Lines } = require('../tree/lines.js');
 
 /** @typedef {import('./types').Answer} Answer */
 /** @typedef {import('./types').Info} Info */
 /** @typedef {import('./types').RunContext} RunContext */
-/** @typedef {import('./types').SourceFile} SourceFile */
-/** @typedef {import('../package/types').FileError} FileError */
+/** @typedef {import('./types').AnalyseOptions} AnalyseOptions */
+/** @typedef {import('../package/types').Module} Module */
+/** @typedef {import('../package/types').Script} Script */
 /** @typedef {{ path: string, line: number, column: number, code: string, message: string }} Said what the program says of a file, by its path from the folder */
-/** @typedef {{ answers: Answer[], errors: Said[], faults: Said[], warnings: Said[] }} Line */
+/** @typedef {{ text: string, start: number, is_effect: boolean, target: string | null }} Lead a text by which a module names another one */
+/** @typedef {{ path: string, leads: Lead[], names_return: boolean }} ReadFile */
+/** @typedef {{ folder: string, entries: { key: string, path: string }[], taken: { written: string, path: string }[] }} Entries */
+/** @typedef {{ errors: Said[], faults: Said[], warnings: Said[], packages: Entries[], files: ReadFile[] }} Told what the program says of a folder beside its answers */
 
-const NAMES = ['fast-check-source', 'fast_check_source'];
-const SPECIFIER = /^file:\/\/\/(.*)$/;
+const FILE = 'file:///';
+// What the compiler reads as a fault and the program does not: a parameter with a question mark and a value.
+const FAULT = /[\w$]\?\s*(?::[^=;\n{},)]*)?=(?![=>])/;
+// What stands behind the answers in the program's line. No text has an unescaped quotation mark.
+const [HEAD, REST] = ['{"answers":', ',"errors":['];
 
-/** The program: that of the variable FAST_CHECK_SOURCE, else the one that lies beside the other program. */
-function programOf(/** @type {Record<string, string | undefined>} */ { FAST_CHECK_SOURCE: named, FAST_CHECK: other }) {
-  if (named) return named;
-  const folder = path.dirname(other || PROGRAM);
-  const beside = NAMES.map((name) => path.join(folder, name)).find((file) => fs.existsSync(file));
-  if (beside) return beside;
-  throw new ProgramError(`there is no ${NAMES[0]} in ${folder}, and the variable FAST_CHECK_SOURCE names none`, 5);
+/** The line of the program in two parts: what it answers, and what it says besides. */
+function parted(/** @type {string} */ line) {
+  const end = line.indexOf(REST);
+  /** @type {Told | null} */
+  const told = line.startsWith(HEAD) && end >= 0 ? JSON.parse(`{${line.slice(end + 1)}`) : null;
+  if (!told || !told.packages || !told.files) throw new ProgramError('the program did not answer: it is of another version, and writes other lines', 5);
+  return { answers: answersOf(line.slice(HEAD.length, end)), told };
 }
 
-/**
- * The line that the program prints for a folder.
- *
- * @returns {Promise<Line>}
- */
-async function lineOf(/** @type {string} */ dir, /** @type {RunContext} */ { environment, progress, signal: ended }) {
+/** The line that the program prints for a folder. */
+async function lineOf(/** @type {string} */ program, /** @type {string} */ dir, /** @type {RunContext} */ { progress, signal: ended }) {
   const tell = (/** @type {string} */ line) => progress.line(line);
-  const { status, out, said, signal } = await progress.during('the program is at work', run([programOf(environment), dir], tell, ended));
-  if (status <= 2 && out.trim()) return JSON.parse(out);
+  const { status, out, said, signal } = await progress.during('the program is at work', run([program, dir], tell, ended));
+  if (status <= 2 && out.trim()) return /** @type {string} */ (out.trimEnd());
   const why = said || (signal ? `it was stopped by ${signal}` : `it ended with status ${status}`);
   throw new ProgramError(`the program did not answer: ${why.replace(/^error: /, '')}`, status > 2 && status <= 5 ? status : 5);
 }
 
-/** The files of some names from the folder, as far as they are there. */
-function filesOf(/** @type {string} */ dir, /** @type {Set<string>} */ names) {
-  /** @type {Map<string, SourceFile>} */
-  const files = new Map();
-  for (const name of [...names].sort()) {
-    const file = path.join(dir, name);
-    if (!fs.existsSync(file) || !fs.statSync(file).isFile()) continue;
-    const { text } = readText(file);
-    const specifier = `file:///${name.split('/').map(encodeURIComponent).join('/')}`;
-    files.set(specifier, { specifier, path: file, text, name, lines: new Lines(text) });
+/** The compiler's tree of a file; an empty one where there is no compiler. */
+function treeOf(/** @type {string} */ file, /** @type {string} */ text) {
+  try {
+    const { parse, toTree } = require('../tree/index.js');
+    return toTree(parse(file, text), { short: true });
+  } catch (error) {
+    if (/** @type {import('../cli/types').KnownError} */ (error).code !== NO_COMPILER) throw error;
+    return /** @type {import('../tree/types').Tree} */ (/** @type {unknown} */ ({ program: null, errors: [], faults: [] }));
   }
-  return files;
+}
+
+/** The module of a file that the program has read. The compiler reads it where its tree is asked for. */
+function moduleOf(/** @type {Script} */ plain, /** @type {ReadFile} */ { leads, names_return: namesReturns }) {
+  const { path: file, text, mediaType } = plain;
+  const hasEffects = leads.some((it) => it.is_effect) || refersTo(text);
+  const module = { ...plain, isDeclaration: isDeclarationFile(mediaType), hasEffects, namesReturns };
+  /** @type {import('../tree/types').Tree | null} */
+  let tree = null;
+  Object.defineProperty(module, 'tree', {
+    get() {
+      tree = tree || treeOf(file, text);
+      return tree;
+    },
+  });
+  return /** @type {Module} */ (module);
+}
+
+/** What is known of a folder by what the program says of it. */
+class Folder {
+  constructor(/** @type {string} */ dir, /** @type {Told} */ told, /** @type {AnalyseOptions} */ options) {
+    this.root = path.resolve(dir);
+    this.told = told;
+    this.lookup = Lookup.of(this.root);
+    /** @type {import('../package/types').FileError[]} */
+    this.errors = [];
+    this.packages = this.configured(options);
+    this.resolver = new Resolver(this.root, this.packages, this.lookup);
+    /** @type {Info} */
+    this.info = {
+      packages: this.packages.map((it) => withUrls(it, it.exports, this.root)), entryPoints: [], modules: [], scripts: [], jsonModules: [], externals: [], missing: [],
+      errors: this.errors, faults: [], taken: this.taken(), times: { parse: 0, tree: 0 },
+    };
+    this.info.entryPoints = this.info.packages.flatMap((it) => it.entryPoints);
+    /** @type {import('../package/types').Resolution[]} */
+    this.resolutions = [];
+    for (const it of told.files) this.add(it);
+  }
+
+  /** The packages by their configurations, with the entry points that the program found. */
+  configured(/** @type {AnalyseOptions} */ options) {
+    const config = configOf(this.root, this.lookup.files, this.errors);
+    return this.told.packages.map(({ folder, entries }) => {
+      const dir = path.join(this.root, folder);
+      const own = dir === this.root ? config : configOf(dir, this.lookup.files, this.errors);
+      const exports = entries.map(({ key, path: file }) => /** @type {[string, string]} */ ([key, path.join(this.root, file)]));
+      return { ...described(dir, own, { dir: this.root, config }, {}, options), exports };
+    });
+  }
+
+  taken() {
+    return this.told.packages.flatMap(({ folder, taken }) => taken.map(({ written, path: file }) => ({ written, dir: path.join(this.root, folder), file: path.join(this.root, file) })));
+  }
+
+  add(/** @type {ReadFile} */ read) {
+    const file = path.join(this.root, read.path);
+    const mediaType = mediaTypeOf(file);
+    if (mediaType === 'Unknown') return;
+    const plain = { specifier: urlOf(this.root, file), path: file, text: readText(file).text, mediaType };
+    if (mediaType === 'Json') this.info.jsonModules.push(plain);
+    else if (isJavaScript(mediaType)) this.info.scripts.push(plain);
+    else this.addModule(plain, read);
+  }
+
+  addModule(/** @type {Script} */ plain, /** @type {ReadFile} */ read) {
+    this.info.modules.push(moduleOf(plain, read));
+    const lines = new Lines(plain.text);
+    for (const { text, start, target } of read.leads) this.lead(plain, { text, target, offset: lines.offset(start) });
+  }
+
+  /** Where a text of a module leads. */
+  lead(/** @type {Script} */ { specifier: from, path: file }, /** @type {{ text: string, target: string | null, offset: number }} */ { text, target, offset }) {
+    if (target !== null && target.startsWith(FILE) && !text.startsWith('file:')) this.resolutions.push([from, text, target]);
+    else if (RELATIVE.test(text)) this.info.missing.push({ path: file, offset, text, isOutside: !this.lookup.files.isBelow(path.resolve(path.dirname(file), text)) });
+    else {
+      const specifier = SCHEME.test(text) ? text : `npm:${text}`;
+      this.info.externals.push({ path: file, offset, text, specifier, name: packageName(text), isExplained: this.resolver.isExplained(file, text) });
+      this.resolutions.push([from, text, specifier]);
+    }
+  }
+
+  /** Whether something is to be said of the folder by the compiler's words, or may be: where it reads imports and entry points, it may find more. */
+  get needsWords() {
+    const { errors, faults, warnings, packages } = this.told;
+    const { externals, missing, modules } = this.info;
+    const isOdd = missing.length > 0 || externals.some((it) => !it.isExplained) || modules.some(({ text }) => FAULT.test(text));
+    return isOdd || !packages.length || [...this.errors, ...errors, ...faults, ...warnings].length > 0;
+  }
+}
+
+/** Whether the settings of a package name entry points, and no setting counts. */
+function hasPassedOver(/** @type {Folder} */ { root, told, lookup }, /** @type {AnalyseOptions} */ { noIgnore }) {
+  if (!noIgnore) return false;
+  return told.packages.some(({ folder }) => {
+    const written = configOf(path.join(root, folder), lookup.files, []);
+    return settingsOf(written, {}).exports !== undefined;
+  });
+}
+
+/** A request of a folder that the program reads itself: where texts lead is asked of it. */
+function requestOf(/** @type {import('../package/types').Resolution[]} */ resolutions) {
+  return { graph: { modules: [], resolutions, packages: [] }, modules: [], aliases: [], workspace_members: [], provider: { packages: [], fallback: '' }, pending: [], first: false };
 }
 
 /**
- * What is known of a folder of which no module was read here.
+ * What the program answers of a folder, and what is known of it besides. Where something is wrong with its configurations, its imports or its syntax, `info` is null: the
+ * compiler says it by its own words, and `told` has what the program says.
  *
- * @returns {Info}
+ * @param {string} program
+ * @param {string} dir
+ * @param {AnalyseOptions} options
+ * @param {RunContext} context
  */
-function infoOf(/** @type {FileError[]} */ errors, /** @type {FileError[]} */ faults) {
-  return { packages: [], entryPoints: [], modules: [], scripts: [], jsonModules: [], externals: [], missing: [], errors, faults, taken: [], times: { parse: 0, tree: 0 } };
-}
-
-/** What the program answers of a folder, with the files that it answers or says something of. */
-async function readBySource(/** @type {string} */ dir, /** @type {RunContext} */ context) {
-  const { answers, errors, faults, warnings } = await lineOf(dir, context);
-  const answered = answers.flatMap(([specifier]) => decodeURIComponent((SPECIFIER.exec(specifier) || ['', ''])[1]));
-  const files = filesOf(dir, new Set([...answered, ...[...errors, ...faults, ...warnings].map((it) => it.path)].filter(Boolean)));
-  const placed = (/** @type {Said[]} */ all, /** @type {'Error' | 'Warning'} */ level) => all.map((it) => ({ ...it, path: path.join(dir, it.path), level }));
-  return { answers, files, info: infoOf(placed(errors, 'Error'), placed(faults, 'Error')), told: placed(warnings, 'Warning') };
+async function readBySource(program, dir, options, context) {
+  const begun = Date.now();
+  const { answers, told } = parted(await lineOf(program, dir, context));
+  const reading = context.reading || ((/** @type {() => Folder} */ call) => call());
+  const folder = reading(() => new Folder(dir, told, options));
+  if (context.beside) context.beside(folder.root, begun);
+  const isRead = !folder.needsWords && !hasPassedOver(folder, options);
+  return { answers, told, info: isRead ? folder.info : null, request: requestOf(folder.resolutions) };
 }
 
 module.exports = { readBySource };

@@ -1,6 +1,7 @@
 'use strict';
 // Which program is run.
 const fs = require('fs');
+const path = require('path');
 const { PROGRAM, isClone, isNpm } = require('../cli/installed.js');
 
 const PLATFORM = `${process.platform} ${process.arch}`;
@@ -13,9 +14,20 @@ function programFile(/** @type {Record<string, string | undefined>} */ { FAST_CH
   return named || (isClone || !isForHere() ? undefined : PROGRAM);
 }
 
-/** The program by what changes where it is written, since it is too large to be read each time; null where it is not known, or not there. */
-function programStamp(/** @type {Record<string, string | undefined>} */ environment) {
-  const file = programFile(environment);
+// The reader of a command that names none: the program that reads folders itself, where it is there and nothing is kept for later runs, else the compiler's.
+const EITHER = 'either';
+// Where it lies from the folder of the other program: in a package, and among what the gate builds.
+const SOURCE_PROGRAMS = ['fast-check-source', 'fast_check_source', '../../fast_check_source/out/fast_check_source'];
+
+/** The file of the program that reads folders itself: that of the variable FAST_CHECK_SOURCE, else the one beside the other program. Null where there is none. */
+function sourceProgramFile(/** @type {Record<string, string | undefined>} */ { FAST_CHECK_SOURCE: named, FAST_CHECK: other }) {
+  if (named || !isForHere()) return named || null;
+  const folder = path.dirname(other || PROGRAM);
+  return SOURCE_PROGRAMS.map((name) => path.join(folder, name)).find((file) => fs.existsSync(file)) || null;
+}
+
+/** A program by what changes where it is written, since it is too large to be read each time; null where it is not known, or not there. */
+function stampOf(/** @type {string | null | undefined} */ file) {
   if (!file) return null;
   try {
     const { mtimeMs, ctimeMs, size, ino } = fs.statSync(file);
@@ -26,4 +38,9 @@ function programStamp(/** @type {Record<string, string | undefined>} */ environm
   }
 }
 
-module.exports = { PLATFORM, isForHere, programStamp };
+/** The stamp of the program that is sent what this tool reads; null as of any program. */
+function programStamp(/** @type {Record<string, string | undefined>} */ environment) {
+  return stampOf(programFile(environment));
+}
+
+module.exports = { EITHER, PLATFORM, isForHere, programStamp, sourceProgramFile, stampOf };

@@ -131,6 +131,8 @@ export interface World extends ReadFolder {
   skeletons: Map<string, Skeleton>;
   messages: Message[];
   preview?: Preview | null;
+  /** Whether the program has read it. */
+  isBySource?: boolean;
 }
 
 /** What prints skeletons and looks at them needs of a folder. */
@@ -156,6 +158,8 @@ export interface RunContext {
   signal?: AbortSignal;
   /** Makes a call that reads files. */
   reading?<T>(call: () => T): T;
+  /** Notes that another process reads a folder from a time on. */
+  beside?(folder: string, begun: number): void;
 }
 
 export type AnalyseOptions = Options & { preview?: boolean; treesOf?: Set<string>; within?: { files: Set<string>; start?: number }; texts?: Map<string, string>; keepSourceFiles?: boolean; short?: boolean; members?: string[] };

@@ -6,7 +6,7 @@ const { chosen, candidateFiles } = require('../compiler/find.js');
 const { Trace, isSame } = require('../package/trace.js');
 const { seconds } = require('../cli/progress.js');
 const { VERSION } = require('../cli/installed.js');
-const { programStamp } = require('./program.js');
+const { programStamp, sourceProgramFile, stampOf } = require('./program.js');
 
 /** @typedef {import('../cli/types').Context} Context */
 /** @typedef {import('../cli/types').Options} Options */
@@ -38,7 +38,7 @@ class Whole {
    */
   static of(/** @type {Target[]} */ targets, /** @type {Options} */ options, /** @type {Context} */ context) {
     const { kept } = context;
-    const isOpen = options.watch || options.verify || options.fix || options.reader === 'source' || options.baseline || options.format === 'sarif' || options.texts;
+    const isOpen = options.watch || options.verify || options.fix || options.baseline || options.format === 'sarif' || options.texts;
     if (!kept || !kept.folder || isOpen) return null;
     const without = [TOOL, kept.folder.folder, ...candidateFiles().map((file) => path.dirname(path.dirname(file)))];
     if (targets.some(({ dir }) => without.some((it) => isAround(it, dir) || isAround(dir, it)))) return null;
@@ -46,7 +46,7 @@ class Whole {
     if (!stamp) return null;
     try {
       const asked = [
-        kept.maker(), VERSION, stamp, process.version, context.cwd, targets.map((it) => ({ ...it, only: [...it.only || []] })), { ...options, kept: null }, chosen.own, context.paint('red', ''), context.out.columns,
+        kept.maker(), VERSION, stamp, stampOf(sourceProgramFile(context.environment)), process.version, context.cwd, targets.map((it) => ({ ...it, only: [...it.only || []] })), { ...options, kept: null }, chosen.own, context.paint('red', ''), context.out.columns,
         context.out.isTTY,
       ];
       return new Whole(kept, crypto.createHash('sha256').update(`whole ${JSON.stringify(asked)}`).digest('hex'), without, context);
@@ -87,13 +87,13 @@ class Whole {
         },
       };
     };
-    return { ...this.context, out: listened('out'), err: listened('err'), clock: SECONDS, reading: (call) => this.trace.during(call) };
+    return { ...this.context, out: listened('out'), err: listened('err'), clock: SECONDS, reading: (call) => this.trace.during(call), beside: (folder, begun) => this.trace.beside(folder, begun) };
   }
 
   /** Keeps what was written, where nothing kept the folders from being read. */
   keep(/** @type {number} */ status) {
     const { folder } = this.kept;
-    if (status > 1 || !folder) return;
+    if (status > 1 || !folder || !this.trace.isWhole) return;
     this.kept.made += 1;
     folder.put(this.key, { asked: this.trace.asked, written: this.written, status });
   }

@@ -48,10 +48,15 @@ function keepsName(tree, own = new Set()) {
   return false;
 }
 
+/** Whether a source refers to another one by a comment. */
+function refersTo(/** @type {string} */ text) {
+  return /^\s*\/\/\/\s*<reference\b/m.test(text);
+}
+
 /** Whether a source imports a module for its effects alone, which may change the types of others, or refers to one by a comment. */
 function hasEffects(/** @type {string} */ text, /** @type {forms.Program} */ { Module }) {
   const isEffect = (/** @type {forms.ModuleItem} */ { ModuleDecl: it }) => it && it.Import && !it.Import.type_only && !(it.Import.specifiers || []).length;
-  return /^\s*\/\/\/\s*<reference\b/m.test(text) || Boolean(Module && (Module.body || []).some(isEffect));
+  return refersTo(text) || Boolean(Module && (Module.body || []).some(isEffect));
 }
 
 /** Whether `--verify` may tell more of a folder than its messages do. */
@@ -59,4 +64,4 @@ function mayTellMore(/** @type {World} */ world) {
   return [...world.skeletons.values()].some((it) => traitsOf(it).mayKeepValue && keepsName(it.program)) || world.info.modules.some((it) => it.hasEffects && world.skeletons.has(it.specifier));
 }
 
-module.exports = { hasEffects, mayTellMore };
+module.exports = { hasEffects, mayTellMore, refersTo };

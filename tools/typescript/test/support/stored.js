@@ -40,22 +40,28 @@ const MORE = {
   'several-messages': [['check', '--allow', 'missing-explicit-type'], ...['github', 'sarif', 'junit'].map((format) => ['check', '--format', format])],
 };
 
-/** What the commands say of a package; of one where the rules part from TypeScript, and of
+/** What the commands say of a package by the compiler's reader, with which the other one is compared; of one where the rules part from TypeScript, and of
  * what can be written instead, what the compiler finds in the skeletons too. */
 async function said(/** @type {string} */ name) {
   const parts = [];
   const commands = [['check'], ['skeleton'], ...(/^(apart|instead)-/.test(name) ? [['check', '--verify']] : []), ...(MORE[name] || []),
     ...(/^dts/.test(name) ? [['skeleton', '--dts']] : [])];
   for (const words of commands) {
-    const { status, out, err: told } = await run([...words, '.'], { cwd: path.join(PACKAGES, name) });
+    const byCompiler = ['check', 'skeleton'].includes(words[0]) ? ['--reader', 'typescript'] : [];
+    const { status, out, err: told } = await run([...words, ...byCompiler, '.'], { cwd: path.join(PACKAGES, name) });
     const err = told.replace(NEWER_COMPILER, '').replace(ts.version, 'VERSION');
-    parts.push(`$ ${words.join(' ')}: status ${status}\n${out.replace(CLOSING, '').replace(OWN_VERSION, '$1VERSION')}${err && words[0] !== 'skeleton' ? `$ standard error\n${err}` : ''}`);
+    parts.push(`$ ${words.join(' ')}: status ${status}\n${withoutClosing(out).replace(OWN_VERSION, '$1VERSION')}${err && words[0] !== 'skeleton' ? `$ standard error\n${err}` : ''}`);
   }
   return parts.join('\n');
 }
 
-function expectedOf(/** @type {string} */ name) {
-  return path.join(EXPECTED, ...(READS_ALL && NEWER.includes(name) ? ['newer'] : []), `${name}.txt`);
+function expectedOf(/** @type {string} */ name, readsAll = READS_ALL) {
+  return path.join(EXPECTED, ...(readsAll && NEWER.includes(name) ? ['newer'] : []), `${name}.txt`);
+}
+
+/** What is said without the closing lines. */
+function withoutClosing(/** @type {string} */ text) {
+  return text.replace(CLOSING, '');
 }
 
 /** Whether what is stored of a package is what the compiler at hand says. */
@@ -81,4 +87,4 @@ async function store(/** @type {string[]} */ names) {
 
 if (require.main === module) store(NAMES.filter((name) => process.argv.length < 3 || process.argv.includes(name)));
 
-module.exports = { NAMES, READS_ALL, isCompared, expectedOf, said };
+module.exports = { NAMES, NEWER, READS_ALL, READS_NONE, isCompared, expectedOf, said, withoutClosing };

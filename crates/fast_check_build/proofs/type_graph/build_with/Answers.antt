@@ -15,13 +15,13 @@ answer_and_set_all-requires g c =
     all_owned (with_used used (known_of c.args.input.graph.now c.args.input.root_symbol.now c.args.input.options.now.workspace_members.items
     (m.url_of c.args.jsr_url_provider.now.1) (m.nv_at c.args.jsr_url_provider.now.1)))
     (map nv_of c.args.pending_nvs.items) c.in_ok-ranges.ranges
-    (rw c.as_slice.ensures.value at c.in_ok-ranges.ensures.found) c.len.ensures.ordered
+    (rw c.as_slice.ensures.value at c.in_ok-ranges.ensures) c.len.ensures.ordered
 
 pub returns-clause-built : goal.returns-clause-built
 returns-clause-built g c = record {
   built = record {
     ranges = c.in_ok-ranges.ranges;
-    found = rw c.as_slice.ensures.value at c.in_ok-ranges.ensures.found;
+    found = rw c.as_slice.ensures.value at c.in_ok-ranges.ensures;
     packages_in_order = c.len.ensures.ordered;
     answered = c.in_ok-answers.ensures.answered;
   };

@@ -11,4 +11,4 @@ answer_all-requires g c =
     (known_of c.args.input.graph.now c.args.input.root_symbol.now c.args.input.options.now.workspace_members.items
     (m.url_of c.args.jsr_url_provider.now.1)
     (m.nv_at c.args.jsr_url_provider.now.1)) (map nv_of c.args.pending_nvs.items) c.in_ok-ranges.ranges
-    (rw c.as_slice-members.ensures.value at c.in_ok-ranges.ensures.found) c.len.ensures.ordered
+    (rw c.as_slice-members.ensures.value at c.in_ok-ranges.ensures) c.len.ensures.ordered

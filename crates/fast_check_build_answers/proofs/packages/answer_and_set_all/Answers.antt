@@ -49,8 +49,8 @@ loop-nv-preserved-in_ok-append g c =
       set = set_more (m.hash_of d c.args.seed.now) _ first c.args.input.graph.now c.args.input.root_symbol.now c.loop-nv.yielded p
           (nv_of c.in-Some.nv) (m.stored d) _ _
           (ap (λ h. h c.args.seed.now) c.loop-nv.invariant.hash) refl c.loop-nv.invariant.set c.in_ok-more.ensures.set;
-      seed = c.in_ok-more.ensures.seed ∙ c.loop-nv.invariant.seed;
-      hash = c.in_ok-more.ensures.hash ∙ c.loop-nv.invariant.hash;
+      seed = c.in_ok-more.ensures.keys.seed ∙ c.loop-nv.invariant.seed;
+      hash = c.in_ok-more.ensures.keys.hash ∙ c.loop-nv.invariant.hash;
     }
 
 pub loop-nv-preserved : goal.loop-nv-preserved
@@ -68,6 +68,6 @@ loop-nv-preserved g c =
       set = set_more (m.hash_of d c.args.seed.now) _ first c.args.input.graph.now c.args.input.root_symbol.now c.loop-nv.yielded p
           (nv_of c.in-Some.nv) (m.stored d) _ _
           (ap (λ h. h c.args.seed.now) c.loop-nv.invariant.hash) refl c.loop-nv.invariant.set c.in_ok-more.ensures.set;
-      seed = c.in_ok-more.ensures.seed ∙ c.loop-nv.invariant.seed;
-      hash = c.in_ok-more.ensures.hash ∙ c.loop-nv.invariant.hash;
+      seed = c.in_ok-more.ensures.keys.seed ∙ c.loop-nv.invariant.seed;
+      hash = c.in_ok-more.ensures.keys.hash ∙ c.loop-nv.invariant.hash;
     }

@@ -3,7 +3,6 @@ use Rattle.std.specs.List.{Contains}
 use Rattle.fast_check_tables_packages.specs.Package.{nv_of}
 use Rattle.fast_check_finder_demands.proofs.asked.Maps.{first_in}
 use Rattle.fast_check_tables_packages.specs.MembersIn.{members_in}
-use Rattle.fast_check_finder_ranges.proofs.entries.Passed.{passed_on}
 use Rattle.fast_check_finder_loop.specs.declared.demand.SymbolAt.{SymbolAt}
 use Rattle.fast_check_finder_loop.specs.declared.finder.Finder.{Finder}
 use Rattle.fast_check_finder_loop.specs.Finder.{search_of}
@@ -11,7 +10,7 @@ use Rattle.fast_check_finder_loop.specs.Lent.{known_with}
 use Rattle.fast_check_finder_loop.specs.Refusals.{IsRefusal}
 use Rattle.fast_check_finder_loop.proofs.Loop.{packages_chained, on_begun, on_ended}
 use Rattle.fast_check_finder_loop.proofs.Popped.{after_symbol, after_names, after_package, turned_on, less_left}
-use Rattle.fast_check_finder_loop.proofs.Refused.{refusal}
+use Rattle.fast_check_finder_loop.proofs.Refused.{refusal, refused_on}
 use Rattle.fast_check_finder_loop.proofs.Stored.{has_lent}
 use Rattle.fast_check_finder_loop.proofs.find.find_all.Goals as goal
 
@@ -73,35 +72,35 @@ turns-smaller g c =
     let has = has_lent c.args.lent.cache (λ x. (goal.FastCheckCache-dyn g x.now).hash_of x.now.1 c.args.lent.seed.now)
     (λ x. (goal.FastCheckCache-dyn g x.now).stored x.now.1) c.args.lent.facts.graph.now in
     less_left i.on (after_package i.on one two c.enter_next.new.self refl c.in-None.ensures.items refl c.in-None-pop.ensures.items true
-    (rw c.if-not-branch.false at (c.in_ok-enter_next-in-None-pop.ensures.turned i.members).0)) _ has
+    (rw c.if-not-branch.false at (c.in_ok-enter_next-in-None-pop.ensures i.members).0)) _ has
 
 pub turns-preserved : goal.turns-preserved
 turns-preserved g c =
     let i = c.turns.invariant in
     let one : Finder = record c.turns.finder { symbols = c.pop_front.new.self } in
     let two : Finder = record one { names = c.pop.new.self } in
-    let next = c.in_ok-enter_next-in-None-pop.ensures.turned i.members in
+    let next = c.in_ok-enter_next-in-None-pop.ensures i.members in
     let t = after_package i.on one two c.enter_next.new.self refl c.in-None.ensures.items refl c.in-None-pop.ensures.items true
     (rw c.if-not-branch.false at next.0) in
     record { done = i.done ++ t.turn.demand ∷ []; on = turned_on i.on t; members = next.1 }
 
-pub returns-clause-found : goal.returns-clause-found
-returns-clause-found g c =
+pub returns : goal.returns
+returns g c =
     let i = c.turns.invariant in
     let one : Finder = record c.turns.finder { symbols = c.pop_front.new.self } in
     let two : Finder = record one { names = c.pop.new.self } in
     let t = after_package i.on one two c.enter_next.new.self refl c.in-None.ensures.items refl c.in-None-pop.ensures.items false
-    (rw c.if-not-branch.true at (c.in_ok-enter_next-in-None-pop.ensures.turned i.members).0) in
+    (rw c.if-not-branch.true at (c.in_ok-enter_next-in-None-pop.ensures i.members).0) in
     on_ended _ _ i.done _ _ i.on t c.in_ok-into_found.field-0.entries (c.in_ok-into_found.ensures t.sound.once.apart)
 
-pub returns-in_err-enter_next-in-None-pop-clause-refused : goal.returns-in_err-enter_next-in-None-pop-clause-refused
-returns-in_err-enter_next-in-None-pop-clause-refused g c =
+pub returns-in_err-enter_next-in-None-pop : goal.returns-in_err-enter_next-in-None-pop
+returns-in_err-enter_next-in-None-pop g c =
     let m = goal.JsrUrlProvider-dyn g c.args.lent.provider.now in
     let k = known_with c.args.lent.facts c.args.lent.seed.now (m.url_of c.args.lent.provider.now.1) (m.nv_at c.args.lent.provider.now.1) c.args.lent.cache
     (λ x. (goal.FastCheckCache-dyn g x.now).hash_of x.now.1) (λ x. (goal.FastCheckCache-dyn g x.now).stored x.now.1) in
     let rs = map nv_of c.args.roots.now in
     let f = c.in_err-enter_next-in-None-pop.field-0.0 in
     let i = c.turns.invariant in
-    passed_on c.from_residual-in_err-enter_next-in-None-pop.result f (IsRefusal k rs) c.from_residual-in_err-enter_next-in-None-pop.ensures.1
+    refused_on c.from_residual-in_err-enter_next-in-None-pop.result f _ (IsRefusal k rs) c.from_residual-in_err-enter_next-in-None-pop.ensures.1
     (refusal k rs (map nv_of c.turns.finder.packages) (packages_chained k rs i.done (search_of c.turns.finder) i.on.way.accounted) f
-    c.in_err-enter_next-in-None-pop.ensures.refused)
+    c.in_err-enter_next-in-None-pop.ensures)

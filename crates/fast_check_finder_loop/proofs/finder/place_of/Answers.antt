@@ -38,15 +38,5 @@ returns c =
           (ap (slice_get (es ++ (key, value) ∷ [])) c.len-number.ensures.len ∙ get_last es (key, value));
       nv_is = refl;
       text_is = ap serialize c.specifier.ensures;
-      by = inr (
-        all,
-        c.new.ensures.info,
-        c.new.ensures.asked,
-        c.new.ensures.ranges,
-        c.new.ensures.implementations,
-        c.new.ensures.faults,
-        c.new.ensures.index,
-        c.new.ensures.shows_all,
-        c.new.ensures.aliases,
-      );
+      by = inr (all, c.new.ensures);
     }

@@ -4,7 +4,6 @@ use Rattle.std.proofs.lemmas.List.{length-map, get_or-map}
 use Rattle.std.proofs.lemmas.Option.{slice_get_read}
 use Rattle.fast_check_tables_packages.specs.Package.{nv_of}
 use Rattle.fast_check_tables_cache.specs.CachedPackages.{used_item}
-use Rattle.fast_check_finder_ranges.proofs.entries.Passed.{passed_on}
 use Rattle.fast_check_finder_lattice.specs.Traces.{handled}
 use Rattle.fast_check_finder_demands.specs.asked.Demands.{of_package}
 use Rattle.fast_check_finder_demands.specs.facts.GraphFacts.{known, with_used}
@@ -13,23 +12,23 @@ use Rattle.fast_check_finder_loop.specs.Finder.{names_seen, seen_at, entered_nv}
 use Rattle.fast_check_finder_loop.specs.Lent.{used_of}
 use Rattle.fast_check_finder_loop.specs.Refusals.{IsRefusedOf}
 use Rattle.fast_check_finder_loop.proofs.Once.{once_passed, once_entered}
-use Rattle.fast_check_finder_loop.proofs.Refused.{refused_of}
+use Rattle.fast_check_finder_loop.proofs.Refused.{refused_of, refused_on}
 use Rattle.fast_check_finder_loop.proofs.Taken.{package_taken, turns_by}
 use Rattle.fast_check_finder_loop.proofs.finder.Finder.enter_next.Goals as goal
 
-pub returns-in_err-enter-clause-refused : goal.returns-in_err-enter-clause-refused
-returns-in_err-enter-clause-refused g c =
+pub returns-in_err-enter : goal.returns-in_err-enter
+returns-in_err-enter g c =
     let m = goal.JsrUrlProvider-dyn g c.args.lent.provider.now in
     let used = used_of c.args.lent.cache (λ x. let n = goal.FastCheckCache-dyn g x.now in
     used_item (n.hash_of x.now.1 c.args.lent.seed.now) (n.stored x.now.1) c.args.lent.facts.graph.now) in
     let k = with_used used (known c.args.lent.facts (m.url_of c.args.lent.provider.now.1) (m.nv_at c.args.lent.provider.now.1)) in
     let f = c.in_err-enter.field-0.0 in
-    passed_on c.from_residual-in_err-enter.result f (IsRefusedOf k (map nv_of c.args.self.now.packages)) c.from_residual-in_err-enter.ensures.1
+    refused_on c.from_residual-in_err-enter.result f _ (IsRefusedOf k (map nv_of c.args.self.now.packages)) c.from_residual-in_err-enter.ensures.1
     (refused_of k c.args.self.now.packages c.args.self.now.entered c.at.result.now (nv_of c.in_ok-nv.nv)
     (omega (arith, c.if-self-len.false, c.len.ensures)) c.at.ensures c.in_ok-nv.ensures f c.in_err-enter.ensures.refused)
 
-pub returns-clause-turned : goal.returns-clause-turned
-returns-clause-turned g c mine =
+pub returns : goal.returns
+returns g c mine =
     let m = goal.JsrUrlProvider-dyn g c.args.lent.provider.now in
     let used = used_of c.args.lent.cache (λ x. let n = goal.FastCheckCache-dyn g x.now in
     used_item (n.hash_of x.now.1 c.args.lent.seed.now) (n.stored x.now.1) c.args.lent.facts.graph.now) in

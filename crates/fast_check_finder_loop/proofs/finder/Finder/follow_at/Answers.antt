@@ -47,11 +47,11 @@ returns c = IfOk-weaker c.files_of.result _ _
     let own = sound.modules (e.0, x) (get_in f.modules.entries c.args.at.place (e.0, x) here_x) in
     let first : AsksEach c.args.at.place ds x.asked z.asked f.symbols.items c.ask_each.new.symbols.items =
     subst (λ (a : List SymbolDemand). AsksEach c.args.at.place ds a z.asked f.symbols.items c.ask_each.new.symbols.items)
-    w.asked c.in_ok-ask_each.ensures in
+    w.kept.asked c.in_ok-ask_each.ensures in
     let info_z = ap (λ i. i.now) w.info in
     let rest = o.asks (same_aliases x z info_z (each_kept c.args.at.place ds x.asked z.asked f.symbols.items c.ask_each.new.symbols.items first)
-    own.aliases w.aliases) in
-    let found = o.found in
+    own.aliases w.kept.aliases) in
+    let found = o.kept.found in
     subst (λ (y : FollowedModule). let t = traced_in g r y.found.info.now in
     (out ≡ files (own_tables t) s) × Goes g r (map (to_symbol (place_nv e) (own_text t)) (names (own_tables t) s))
     (public_at (place_nv e) t (ranges (own_tables t) s) ++ (implementing_at (place_nv e) t (implementations (own_tables t) s)
@@ -66,6 +66,6 @@ returns c = IfOk-weaker c.files_of.result _ _
           (each_append c.args.at.place ds rest.asked x.asked z.asked m.asked f.symbols.items c.ask_each.new.symbols.items c.ask_own.new.symbols.items
           first rest.asks)
           (ap (λ q. q.ranges.items) found ∙ w.ranges) (ap (λ q. q.implementations.items) found ∙ w.implementations)
-          (ap (λ q. map fault_seen q.faults.items) found ∙ w.faults) (o.index ∙ w.index) (o.shows_all ∙ w.shows_all) rest.aliases,
+          (ap (λ q. map fault_seen q.faults.items) found ∙ w.faults) (o.kept.index ∙ w.kept.index) (o.kept.shows_all ∙ w.shows_all) rest.aliases,
     ))
     c.files_of.ensures

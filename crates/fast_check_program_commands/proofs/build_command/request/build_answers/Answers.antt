@@ -38,7 +38,7 @@ returns-in-Err-InvalidExport-clause-refused c =
     let diagnosed = lent (λ j y. IsRefusal
     (known_of a.graph.now a.root_symbol.now a.options.now.workspace_members.items (j.1.url_of y.now) (j.1.nv_at y.now))
     (map nv_of c.from-pending_nvs.result.items) e.field-0)
-    a.provider e.ensures.refused in
+    a.provider e.ensures.built in
     record {
       nv = e.field-0-0;
       text = e.field-0-1;
