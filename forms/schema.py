@@ -1,5 +1,5 @@
 """The kinds of nodes, and the tables of the JSON (the module `schema` of fast_check_read)."""
-from layout import brackets, constant, snake
+from layout import brackets, constant
 from table import COUNTS
 
 

@@ -4,15 +4,13 @@ import json
 
 from bench.cases import build_files
 from bench.cases.cache_cases import OWN, RULES, hash_of
-from bench.cases.odd_builds import single
 from bench.check import random_builds
-from bench.oracle.build_worlds import JsonModule, Module, World, sources_of
-from bench.oracle.items import const, func, let, unknown
-from bench.oracle.module_trees import export, export_all
+from bench.oracle.build_worlds import Module, World, sources_of
+from bench.oracle.items import let
 from bench.oracle.package_accounts import Closure, without_nested
 from bench.oracle.package_rules import World as Rules, join, order_of
 from bench.oracle.package_worlds import nv_of, url_of
-from bench.oracle.trees import lit, returned
+from bench.oracle.trees import lit
 
 NODES = ("Js", "Json", "Wasm")
 # random workspaces by their seeds, each with a package whose sources are changed: it is found again beside others whose items are used. In all but the
@@ -170,24 +168,14 @@ class Built:
             yield f"    sets {key}:" + "".join(" " + word for word in words)
 
 
-def three(**of):
-    """The modules m1, m2 and m3 of one package, with two faults in m2 if it is faulty."""
-    faults = [let("a"), func("f", [], returned(unknown()))] if of.pop("is_faulty", True) else [let("a", value=lit("1"))]
-    return with_hashes(World({"p": ["./m1.ts", "./m2.ts", "./m3.ts"]}, Module("p/m1.ts", let("x", value=lit("1"))), Module("p/m2.ts", *faults),
-                             Module("p/m3.ts", const("y", lit('"y"'))), first=of.pop("first", False)), **of)
-
-
-def pair(**of):
-    """Two packages: p exports all of q."""
-    return with_hashes(World({"p": ["./mod.ts"], "q": ["./mod.ts"]}, Module("p/mod.ts", export_all("@q"), let("x", value=lit("1")), resolved={"@q": "q/mod.ts"}),
-                             Module("q/mod.ts", let("y", value=lit("1"))), pending=of.pop("pending", ["p", "q"])), **of)
-
-
-def re_exported(word):
-    """A package q whose only entry point is of JSON, and p, which exports one name of another module of q, through a re-export of all of it."""
-    return with_hashes(World({"p": ["./mod.ts"], "q": ["./d.json"]}, Module("p/mod.ts", export("y", src="./all"), resolved={"./all": "p/all.ts"}),
-                             Module("p/all.ts", export_all("@q/mod"), resolved={"@q/mod": "q/mod.ts"}),
-                             Module("q/mod.ts", let("y", value=lit("1")), let("z", value=lit("1"))), JsonModule("q/d.json"), pending=[word]))
+def cached(name, pending=None, first=False, changed=None, **of):
+    """The world of a file of the folder `cached`, with hashes: three modules of one package, with two faults in m2 or `sound`; a `pair` of packages, of which
+    p exports all of q; `re_exported`, where q has an entry point of JSON alone and p exports one name of another module of q, through a re-export of all of it;
+    `four` packages, of which p exports all of q, which has a fault, and r all of s."""
+    world = build_files.files("cached")[name].world
+    world.first = first
+    world.parts["pending"] = list(map(nv_of, pending)) if pending else world.parts["pending"]
+    return with_hashes(world, changed, **of)
 
 
 def chained(count):
@@ -204,33 +192,21 @@ def chained(count):
     return {"items": [[nv, [url], [needed]] for nv, needed in needs]}, [world, world], lines
 
 
-def none_there():
-    """An entry point that the graph lacks."""
-    return World({"p": ["./none.ts"]})
-
-
-def four(changed=None):
-    """Four packages: p exports all of q, which has a fault, and r all of s."""
-    return with_hashes(World({word: ["./mod.ts"] for word in "pqrs"}, Module("p/mod.ts", export_all("@q"), let("x", value=lit("1")), resolved={"@q": "q/mod.ts"}),
-                             Module("q/mod.ts", let("a")), Module("r/mod.ts", export_all("@s"), resolved={"@s": "s/mod.ts"}),
-                             Module("s/mod.ts", let("y", value=lit("1"))), pending=["p", "r"]), changed)
-
-
-def unjoined():
-    """Two packages, of which one has an export text that does not join."""
-    return World({"p": ["./mod.ts"], "q": ["./mod.ts", "http://["]}, Module("p/mod.ts", let("x", value=lit("1"))), pending=["p", "q"])
+def bare(name):
+    """The world of a file of the folder `cached` without hashes."""
+    return build_files.files("cached")[name].world
 
 
 def gone():
     """A package of one module, which the graph and the tables lack."""
-    world = single()
+    world = bare("single")
     world.parts["graph"]["modules"], world.parts["modules"], world.modules = [], [], []
     return world
 
 
 def sound(*changed):
     """The modules without faults; the sources of these were changed."""
-    return three(is_faulty=False, **dict.fromkeys(changed, 99))
+    return cached("sound", **dict.fromkeys(changed, 99))
 
 
 def refused(name, traits, worlds):
@@ -250,30 +226,30 @@ def refused(name, traits, worlds):
 def runs():
     """Each run: its name, the cache, and the worlds that are built with it."""
     needed = {"items": [[nv_of("p"), [url_of("p/mod.ts")], [nv_of("q")]]]}
-    yield "a_fault_in_the_second_of_three_modules", {}, [three(), three()]
-    yield "the_first_fault_alone", {}, [three(first=True), three(first=True)]
+    yield "a_fault_in_the_second_of_three_modules", {}, [cached("three"), cached("three")]
+    yield "the_first_fault_alone", {}, [cached("three", first=True), cached("three", first=True)]
     yield "three_modules_without_fault", {}, [sound(), sound()]
     for name in ("m1", "m2", "m3"):
         yield f"the_hash_of_{name}_is_changed", {}, [sound(), sound(name), sound(name)]
-    yield "the_hash_of_the_last_diagnostic_is_changed", {}, [three(), three(m2=99), three(m3=99)]
-    yield "an_entry_point_that_the_graph_lacks", {}, [none_there(), none_there()]
-    yield "two_packages_of_one_key", {"one_key": True}, [pair(), pair()]
+    yield "the_hash_of_the_last_diagnostic_is_changed", {}, [cached("three"), cached("three", m2=99), cached("three", m3=99)]
+    yield "an_entry_point_that_the_graph_lacks", {}, [bare("none_there"), bare("none_there")]
+    yield "two_packages_of_one_key", {"one_key": True}, [cached("pair"), cached("pair")]
     yield "two_packages", {}, [with_hashes(world_of("build_canvas")), with_hashes(world_of("build_canvas"))]
     yield "two_entry_points_with_faults", {}, [with_hashes(world_of("build_faults_of_two_entry_points")), with_hashes(world_of("build_faults_of_two_entry_points"))]
-    yield "a_cache_with_a_seed_of_its_own", {"own_seed": True}, [three(), three()]
-    yield "an_item_without_modules", needed, [pair(pending=["p"]), pair(pending=["p"])]
+    yield "a_cache_with_a_seed_of_its_own", {"own_seed": True}, [cached("three"), cached("three")]
+    yield "an_item_without_modules", needed, [cached("pair", ["p"]), cached("pair", ["p"])]
     # the item of q is made where nothing asks for its module; the second build answers the module as without a cache, and sets it
-    yield "an_item_without_modules_of_a_package_whose_module_another_exports", {}, [re_exported(word) for word in "qpp"]
-    yield "the_second_get_is_refused", {"refused_get": 2}, [pair(), pair(), pair()]
-    yield "the_second_set_is_refused", {"refused_set": 2}, [pair(), pair(), pair()]
+    yield "an_item_without_modules_of_a_package_whose_module_another_exports", {}, [cached("re_exported", [word]) for word in "qpp"]
+    yield "the_second_get_is_refused", {"refused_get": 2}, [cached("pair"), cached("pair"), cached("pair")]
+    yield "the_second_set_is_refused", {"refused_set": 2}, [cached("pair"), cached("pair"), cached("pair")]
     yield "a_refused_set_leaves_the_item_that_was_there", {"refused_set": 2}, [sound(), sound("m2"), sound()]
-    yield "a_module_of_hash_0_that_the_graph_lacks_later", {}, [single(), gone()]
-    yield "a_module_of_hash_1_that_the_graph_lacks_later", {}, [with_hashes(single(), mod=1), gone()]
-    yield "an_export_that_does_not_join", {}, [unjoined()]
+    yield "a_module_of_hash_0_that_the_graph_lacks_later", {}, [bare("single"), gone()]
+    yield "a_module_of_hash_1_that_the_graph_lacks_later", {}, [cached("single", mod=1), gone()]
+    yield "an_export_that_does_not_join", {}, [bare("unjoined")]
     # the second build finds the package again whose source is changed, by an item of which one hash is another, takes the fault of q from its item, and sets
     # the item without modules again; the third takes the new item of p as well
     without_modules = {"items": [[nv_of("r"), [url_of("r/mod.ts")], [nv_of("s")]]]}
-    yield from refused("four_packages", without_modules, [four(), four("p"), four("p")])
+    yield from refused("four_packages", without_modules, [cached("four"), cached("four", changed="p"), cached("four", changed="p")])
     yield from refused("two_packages_of_three_modules", {}, [with_hashes(world_of("build_canvas"))] * 2)
     for seed in range(30):
         world = with_hashes(random_builds.Writer(4000 + seed).world())

@@ -16,6 +16,7 @@ for each fault as `case` says it. Lines before that begin with `//`, and say wha
     // source: WORDS, sources: none, levels: NUMBER
                                 the sources of the answer, and how deep the request is
     // answers: the same        of the second of two modules: whether both answers are the same under a renaming, or `others`
+    // stays: 0 2, stays: none  the items that the skeleton has as they are, in place of its text
     // tree: PATH VALUE         what the items have there in place of what is read
     // comments: 1 20!          the places of tokens that documentation stands before and behind; where a `!` stands, that before it goes
     // leading comments: 1 20!  the same of what stands before them alone
@@ -63,7 +64,7 @@ class Sources:
         self.asked, self.programs, self.version, self.stored = [], {}, None, 0
 
     def ask(self, name, file, text):
-        """Asks for the program of a text of the stored run of this name."""
+        """Asks for the program of a text that a stored file of this name has."""
         self.asked.append((name, file, text))
 
     def program(self, file, text):
@@ -85,11 +86,11 @@ class Sources:
 
 
 def stored_program(name, text):
-    """The program of this text in a stored run."""
-    path = os.path.join(DATA, f"{name}.json")
+    """The program of this text in a stored file of runs."""
+    path = os.path.join(DATA, name)
     if os.path.exists(path):
         with open(path) as file:
-            for source in sources_of(json.load(file)):
+            for source in sources_of([json.loads(line) for line in file]):
                 if source["text"] == text:
                     return source["program"]
     raise SystemExit(f"{name}: the compiler does not read this text, and none is stored: take a newer one (tools/typescript/newest.sh)\n{text}")
@@ -197,6 +198,7 @@ HEADS = {
     "sources": lambda value, case: case.more.update(sources=[]),
     "levels": lambda value, case: case.more.update(levels=int(value)),
     "answers": lambda value, case: case.more.update(answers=value),
+    "stays": lambda value, case: case.more.update(stays=[] if value == "none" else [place for place, in places(value)]),
     "tree": other_tree,
     "comments": documented,
     "leading comments": lambda value, case: documented(value, case, True),
@@ -242,7 +244,7 @@ class Folder:
             if file.endswith(tuple(front_end.ENDINGS.values())):
                 case = file.removesuffix(front_end.ENDINGS[media_type(file)])
                 self.sources[case] = file, text_of(os.path.join(HERE, name, file))
-                SOURCES.ask(case.split(".")[0], *self.sources[case])
+                SOURCES.ask(case.split(".")[0] + ".json", *self.sources[case])
         self.expected = {file[:-9]: text_of(os.path.join(HERE, name, file)) for file in files if file.endswith(".expected")}
         for case in sorted({case.split(".")[0] for case in self.sources} - {case for _, cases in self.titles for case in cases}):
             raise SystemExit(f"{name}/{case} is not in the list {name}/cases")

@@ -1,6 +1,8 @@
 """Runs of `fast-check build` on hostile tables, in the shapes that `bench/check/shapes.py` measures and in some of its own: rings, long
 paths, names that come twice, and modules that lead back to themselves. The trees are empty, so that each module with something public is answered by an
 empty skeleton: what is shown is that the call ends, which modules are answered, and which fault of the tables is reported."""
+import os
+
 from bench.cases import hostile_shapes
 from bench.check import tables
 
@@ -101,97 +103,35 @@ def keys_with_other_values():
     return made, {at: skeleton(), other: skeleton([documented("leading")], [documented("trailing")]), member: skeleton()}
 
 
-ONE = [tables.url(0)]
-TWO = [tables.url(0), tables.url(1)]
-THREE = [*TWO, tables.url(2)]
-IN_TURNS = sorted(tables.url(place) for place in range(1, 51))
-# what a run shows, the shape and its size, and the modules that are answered (with their skeletons where these are not empty), or the line of the refusal
-CASES = [
-    ("hostile_ring_of_aliases", hostile_shapes.alias_ring(1000), ONE),
-    ("hostile_chain_of_aliases", hostile_shapes.alias_chain(1000), ONE),
-    ("hostile_symbols_that_are_their_own_parents", hostile_shapes.own_parents(100), ONE),
-    ("hostile_class_among_its_own_members", a_class_among_its_own_members(3), ONE),
-    ("hostile_re_exports_of_all_from_itself", hostile_shapes.again_from_itself(100), ONE),
-    ("hostile_ring_of_re_exports_of_all", *a_ring_of_re_exports_of_all(1000)),
-    ("hostile_nested_namespaces", hostile_shapes.nested_namespaces(1000), ONE),
-    ("hostile_path_of_names", hostile_shapes.path_of_names(10_000), ONE),
-    # longer than the stack would hold by a call for each name
-    ("hostile_path_behind_a_file", hostile_shapes.path_behind_a_file(70_000, "Name"), TWO),
-    ("hostile_paths_that_part_behind_a_file", hostile_shapes.paths_that_part_behind_a_file(50), TWO),
-    ("hostile_path_through_files", hostile_shapes.path_through_files(50), sorted(tables.url(place) for place in range(51))),
-    ("hostile_path_through_aliases", hostile_shapes.path_through_aliases(50), ONE),
-    ("hostile_parts_through_aliases", hostile_shapes.parts_through_aliases(50), ONE),
-    ("hostile_askers_through_aliases", hostile_shapes.askers_through_aliases(50), ONE),
-    ("hostile_qualified_name_without_names", a_qualified_name_without_names(), TWO),
-    ("hostile_paths_covered", hostile_shapes.paths_covered_of_many_lengths(50), THREE),
-    ("hostile_names_covered_before_others", hostile_shapes.names_covered_before_others(50), THREE),
-    ("hostile_more_names_covered_before_others", hostile_shapes.names_covered_before_others(300), THREE),
-    # found and reported once, though many declarations, names or paths lead to it
-    ("hostile_path_of_two_askers", hostile_shapes.path_of_two_askers(50), ONE),
-    ("hostile_parts_of_many_declarations", hostile_shapes.parts_of_many_declarations(50), ONE),
-    ("hostile_properties_of_overloads", hostile_shapes.properties_of_overloads(50), ONE),
-    ("hostile_properties_of_one_symbol", hostile_shapes.properties_of_one_symbol(50), ONE),
-    ("hostile_one_property_of_many_functions", hostile_shapes.one_property_of_many_functions(50), ONE),
-    ("hostile_paths_of_many_references", hostile_shapes.paths_of_many_references(50), TWO),
-    ("hostile_paths_of_many_targets", hostile_shapes.paths_of_many_targets(50), ONE),
-    ("hostile_paths_of_references_of_which_few_lead_somewhere", hostile_shapes.paths_of_references_of_which_few_lead_somewhere(50), TWO),
-    ("hostile_askers_of_one_part_by_many_names", hostile_shapes.askers_of_one_part_by_many_names(50), ONE),
-    # one module under many names
-    ("hostile_names_of_aliases", hostile_shapes.names_of_aliases(50), TWO),
-    ("hostile_aliases_of_re_exports", hostile_shapes.aliases_of_re_exports(50), TWO),
-    ("hostile_levels_of_qualified_aliases", hostile_shapes.levels_of_qualified_aliases(6), ONE),
-    ("hostile_versions_of_a_member", hostile_shapes.versions_of_a_member(50), ["file:///w/m.ts"]),
-    ("hostile_aliases_of_a_module", hostile_shapes.aliases_of_a_module(20), TWO),
-    # a name behind re-exports of all, and one that none of them has: then what they lead to is asked for nothing
-    ("hostile_names_of_many_re_exports", hostile_shapes.names_of_many_re_exports(50), sorted(tables.url(place) for place in range(52))),
-    ("hostile_names_that_no_re_export_has", hostile_shapes.names_that_no_re_export_has(50), TWO),
-    # what was asked for covers what is asked for behind it
-    ("hostile_path_that_leaves_at_each_name", hostile_shapes.path_that_leaves_at_each_name(50), TWO),
-    ("hostile_path_that_leaves_below_a_name", hostile_shapes.path_that_leaves_below_a_name(50), TWO),
-    # asked for once, whoever asks, by whatever names and texts
-    ("hostile_askers_of_many_references", hostile_shapes.askers_of_many_references(20), TWO),
-    ("hostile_askers_of_a_long_import", hostile_shapes.askers_of_a_long_import(20), TWO),
-    ("hostile_paths_of_unbound_targets", hostile_shapes.paths_of_unbound_targets(20), ONE),
-    ("hostile_paths_of_one_target_by_many_names", hostile_shapes.paths_of_one_target_by_many_names(20), ONE),
-    ("hostile_parts_of_an_alias_of_a_long_name", hostile_shapes.parts_of_an_alias_of_a_long_name(20), ONE),
-    ("hostile_files_of_two_long_packages", hostile_shapes.files_of_two_long_packages(20), ONE),
-    ("hostile_modules_that_depend_on_a_long_package", hostile_shapes.modules_that_depend_on_a_long_package(20), sorted(tables.url(place) for place in range(20))),
-    ("hostile_re_exports_in_a_long_url", hostile_shapes.re_exports_in_a_long_url(20), [tables.url(0), tables.url("a" * 1200)]),
-    ("hostile_re_exports_of_an_alias_of_a_long_url", hostile_shapes.re_exports_of_an_alias_of_a_long_url(20), TWO),
-    ("hostile_one_name_behind_a_long_url", hostile_shapes.one_name_behind_a_long_url(20), TWO),
-    # followed in many turns, of which the later ones go on from what the earlier ones came to
-    ("hostile_names_of_two_modules_in_turns", hostile_shapes.names_of_two_modules_in_turns(50), sorted(tables.url(place) for place in range(3))),
-    ("hostile_names_asked_in_turns", hostile_shapes.names_asked_in_turns(50), [*IN_TURNS, tables.url("m")]),
-    ("hostile_chain_asked_from_its_end", hostile_shapes.chain_asked_from_its_end(50), [*IN_TURNS, tables.url("m")]),
-    ("hostile_files_asked_in_turns", hostile_shapes.files_asked_in_turns(50), sorted([*IN_TURNS, tables.url(51), tables.url("m")])),
-    ("hostile_declarations_asked_in_turns", hostile_shapes.declarations_asked_in_turns(50), [*IN_TURNS, tables.url("m")]),
-    ("hostile_one_property_in_turns", hostile_shapes.one_property_in_turns(50), [*IN_TURNS, tables.url("m")]),
-    ("hostile_re_exports_in_turns", hostile_shapes.re_exports_in_turns(50), sorted([*IN_TURNS, tables.url("m"), *(tables.url(f"m{i}") for i in range(1, 51))])),
-    ("hostile_no_re_export_in_turns", hostile_shapes.no_re_export_in_turns(50), [*IN_TURNS, tables.url("m")]),
-    ("hostile_qualified_alias_in_turns", hostile_shapes.qualified_alias_in_turns(50), [*IN_TURNS, tables.url("m")]),
-    ("hostile_parts_through_aliases_in_turns", hostile_shapes.parts_through_aliases_in_turns(80), [*sorted(tables.url(place) for place in range(1, 11)), tables.url("m")]),
-    # told apart by what they are, though they have one hash
-    ("hostile_modules_of_one_hash", hostile_shapes.modules_of_one_hash(300), ONE),
-    ("hostile_packages_of_one_hash", hostile_shapes.packages_of_one_hash(300), []),
-    ("hostile_exports_of_one_hash", hostile_shapes.exports_of_one_hash(300), ONE),
-    ("hostile_urls_beside_bases", hostile_shapes.urls_beside_bases(50), ONE),
-    ("hostile_entry_points_of_a_long_package", hostile_shapes.entry_points_of_a_long_package(50), ONE),
-    ("hostile_long_name", *a_long_name(100_000)),
-    ("hostile_exports_of_a_symbol", exports_of_a_symbol(3000), ONE),
-    ("hostile_members_asked_for", hostile_shapes.members_asked_for(50), ONE),
-    ("hostile_members_of_one_name", every_name_twice(3), ONE),
-    # what leads to another package asks for that package, by its entry points alone
-    ("hostile_packages_of_each_other", hostile_shapes.two_packages_of_each_other(100), [tables.url(0, 0), tables.url(0, 1)]),
-    ("hostile_keys_that_come_twice", hostile_shapes.duplicate_keys(3), ONE),
-    ("hostile_keys_with_other_values", *keys_with_other_values()),
-    ("hostile_builds_of_a_version", *builds_of_a_version()),
-    ("hostile_slashes_at_the_end", *slashes_at_the_end()),
-    ("hostile_every_fault_of_tables", hostile_shapes.every_table_fault(3), "table-fault 1"),
-]
+def stated():
+    """The lines of `hostile.txt`: the name of a run, or a `-` where the shape is measured alone; its shape and the shape's size; and what is answered."""
+    with open(os.path.join(os.path.dirname(os.path.abspath(__file__)), "hostile.txt")) as lines:
+        for line in lines:
+            if not line.startswith("#"):
+                (name, shape, *size), answer = (part.split() for part in line.partition(": ")[::2])
+                yield name, shape, [int(word) if word.isdigit() else word for word in size], answer
+
+
+def urls_of(words):
+    """The modules that are answered: `1` and `m` stand for 1.ts and m.ts of the package, `a1..9` for a1.ts to a9.ts, and `a*9` for aaaaaaaaa.ts."""
+    for word in words:
+        first, dots, last = word.partition("..")
+        if dots:
+            letters = first.rstrip("0123456789")
+            yield from (tables.url(f"{letters}{place}") for place in range(int(first.removeprefix(letters)), int(last) + 1))
+        elif "*" in word:
+            yield tables.url(word[0] * int(word[2:]))
+        elif word != "none":
+            yield word if ":" in word else tables.url(word)
 
 
 def runs():
-    """Each run: its name, its request, and the answers, or the word of its refusal."""
-    for name, made, answered in CASES:
-        shown = answered if isinstance(answered, dict) else dict.fromkeys(answered, skeleton())
-        yield name, made, answered if isinstance(answered, str) else [[url, {"Ok": each}] for url, each in shown.items()]
+    """Each run: its name, its request, and the answers, or the word of its refusal. Shapes of this file may answer both."""
+    for name, shape, size, words in stated():
+        made = (getattr(hostile_shapes, shape, None) or globals()[shape])(*size)
+        if words[:1] == ["table-fault"]:
+            yield name, made, " ".join(words)
+        elif name != "-":
+            made, shown = (made, sorted(urls_of(words))) if words else made
+            shown = shown if isinstance(shown, dict) else dict.fromkeys(shown, skeleton())
+            yield name, made, [[url, {"Ok": each}] for url, each in shown.items()]

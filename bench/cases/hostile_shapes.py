@@ -528,18 +528,3 @@ def modules_of_one_hash(n):
     made = request(module(url(0), [symbol(1, definition(*(import_type(f"{i}", "s") for i in range(n))))], [["s1", 1]]))
     made["graph"]["resolutions"] = [[url(0), f"{i}", each] for i, each in enumerate(colliding(n, URL_LETTERS, HOST + "0/"))]
     return made
-
-
-SHAPES = (
-    alias_ring, alias_chain, own_parents, again_from_itself, nested_namespaces, path_of_names, path_of_two_askers, path_behind_a_file,
-    paths_that_part_behind_a_file, namespaces_behind_a_file, paths_of_many_references, paths_of_references_of_which_few_lead_somewhere,
-    paths_of_many_targets, paths_of_unbound_targets, paths_of_one_target_by_many_names, parts_of_an_alias_of_a_long_name, path_through_aliases,
-    parts_through_aliases, askers_through_aliases, members_asked_for, parts_of_many_declarations, properties_of_overloads, properties_of_one_symbol,
-    one_property_of_many_functions, every_table_fault, duplicate_keys, versions_of_a_member, names_that_no_re_export_has, names_of_many_re_exports,
-    names_covered_before_others, paths_covered_of_many_lengths, urls_beside_bases, entry_points_of_a_long_package, two_packages_of_each_other,
-    aliases_of_a_module, names_of_aliases, aliases_of_re_exports, levels_of_qualified_aliases, path_through_files, packages_of_one_hash, exports_of_one_hash,
-    names_asked_in_turns, declarations_asked_in_turns, one_property_in_turns, names_of_two_modules_in_turns, chain_asked_from_its_end, files_asked_in_turns,
-    re_exports_in_turns, no_re_export_in_turns, qualified_alias_in_turns, parts_through_aliases_in_turns, path_that_leaves_at_each_name,
-    path_that_leaves_below_a_name, askers_of_many_references, askers_of_one_part_by_many_names, askers_of_a_long_import, files_of_two_long_packages,
-    modules_that_depend_on_a_long_package, re_exports_in_a_long_url, re_exports_of_an_alias_of_a_long_url, one_name_behind_a_long_url, modules_of_one_hash,
-)

@@ -1,7 +1,7 @@
 """Cases whose trees no text is read as: patterns and expressions that are none, what only swc's parser takes, and names of two scopes."""
 from bench.cases.case import Case
 from bench.cases.known_tables import OTHER, known
-from bench.oracle.items import F, ONE, T, const, func, if_, public_class, put, unknown
+from bench.oracle.items import F, ONE, T, const, func, if_, let, public_class, put, unknown
 from bench.oracle.module_trees import ambient_module, default_export, export, global_module, import_, default_import, namespace, star_export, star_import
 from bench.oracle.trees import (
     MODULE, angle, array, array_pattern, arrow, as_, as_const, assign, assigned, binary, block, call, class_, computed, cond, declarator, decorated, default,
@@ -97,6 +97,13 @@ def values():
                "export const i = ({} as never) as string & () => void; export const k = ({} as never) as keyof () => void;")
 
 
+def satisfied():
+    """What the oldest compiler that reads the cases does not read."""
+    value = paren(satisfies(lit('"x"'), "string"))
+    yield Case("satisfies_under_let", [let("a", value=value)], "export let a: string = {} as never;")
+    yield Case("satisfies_under_const", [const("a", value)], 'export const a: "x" = {} as never;')
+
+
 def statements():
     one, empty = returned(ONE), stmt("Empty")
     each = {"VarDecl": variables("Const", declarator("x"))}
@@ -155,4 +162,4 @@ def scopes():
                more=known(("f", MODULE, ("a", "b"), False), ("f", OTHER, (), True)))
 
 
-CASES = {case.name: case for group in (patterns, values, statements, superclasses, modules, ambient_modules, scopes) for case in group()}
+CASES = {case.name: case for group in (patterns, values, satisfied, statements, superclasses, modules, ambient_modules, scopes) for case in group()}

@@ -3,7 +3,8 @@
 Where it is hidden both answers have to be the same under a renaming. Beside each hidden pair stands the nearest edit that is not: its answers are the
 same under none.
 """
-from bench.cases.refused_runs import definition, expando_request, with_tables
+from bench.cases.changed_requests import changed, sections
+from bench.cases.refused_runs import expando_request
 from bench.cases.runs import case, first_module, line, put as put_file, put_example, title
 from bench.oracle.renamings import are_same
 
@@ -38,11 +39,6 @@ def answered(name, content, first, second):
         put_example(EXAMPLE[1], name, [first, second])
 
 
-def refused(name, content, word="bad-form"):
-    put_file(f"{name}.json", content)
-    case(f"pair {name}.json", 2, f"error: input refused: {word}\n")
-
-
 def options():
     title("the option is one for both modules; ranges that are left out are none")
     whole, faulty = first_module(), first_module()
@@ -59,29 +55,10 @@ def options():
 
 
 def refusals():
-    title("a fault of the first module's tables is reported before one of the second's, and both before ranges that are not admitted")
-    whole = lambda **tables: with_tables(first_module().request(), **tables)
-    undeclared, missing = {"symbols": [{"id": 0}, {"id": 1}]}, {"symbols": []}
-    ranged = {"symbols": [{"id": 0}, {"id": 1, "decls": [definition([1, 8])]}]}
-    not_admitted = lambda: expando_request([1, 8])
-    for name, a, b, word in (
-            ("pair_a_table_fault_of_the_first", whole(**undeclared), whole(), "table-fault 2"),
-            ("pair_a_table_fault_of_the_second", whole(), whole(**missing), "table-fault 1"),
-            ("pair_a_table_fault_of_both", whole(**undeclared), whole(**missing), "table-fault 2"),
-            ("pair_a_table_fault_of_both_the_other_way", whole(**missing), whole(**undeclared), "table-fault 1"),
-            ("pair_an_expando_of_the_second", whole(), expando_request(**ranged), "table-fault 4"),
-            ("pair_ranges_of_the_first", not_admitted(), whole(), "ranges-not-admitted"),
-            ("pair_ranges_of_the_second", whole(), not_admitted(), "ranges-not-admitted"),
-            ("pair_ranges_of_both", not_admitted(), not_admitted(), "ranges-not-admitted"),
-            ("pair_ranges_of_the_first_and_a_table_fault", not_admitted(), whole(**missing), "table-fault 1")):
-        refused(name, request_of(a, b), word)
-    title("pairs of another form")
-    both = request_of(whole(), whole())
-    for name, member, value in (("pair_without_a_graph", "graph", ...), ("pair_without_a_first", "a", ...), ("pair_without_a_second", "b", ...),
-                                ("pair_a_second_that_is_null", "b", None), ("pair_ranges_that_are_null", "ranges_b", None),
-                                ("pair_implementations_of_one_number", "impls_a", [[1]]), ("pair_an_option_that_is_no_flag", "first", 0),
-                                ("pair_a_number_with_a_fraction", "more", 1.5)):
-        refused(name, {each: given for each, given in {**both, member: value}.items() if given is not ...})
-    refused("pair_another_form_before_a_table_fault", dict(request_of(whole(**missing), whole()), first=1))
-
-
+    of = {"whole": first_module().request(), "expando": expando_request()}
+    for words, lines in sections("pair.txt"):
+        title(words)
+        for name, word, base, changes in lines:
+            first, second = (base or "whole whole").split()
+            put_file(f"{name}.json", changed(request_of(of[first], of[second]), *changes))
+            case(f"pair {name}.json", 2, f"error: input refused: {word}\n")

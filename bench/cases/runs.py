@@ -3,6 +3,7 @@ import json
 import os
 import sys
 
+from bench.oracle.diagnostics import diagnostic
 from bench.oracle.module_skeletons import sources_of
 from bench.oracle.programs import TOP
 from bench.oracle.trees import DUMMY, Source
@@ -91,9 +92,7 @@ def module_answer(program):
 
 
 def missing_type(span):
-    return {"code": "missing-explicit-type", "docs_url": DOCS + "missing-explicit-type", "hint": "add an explicit type annotation to the symbol",
-            "info": ["all symbols in the public API must have an explicit type"], "level": "Error",
-            "message": "missing explicit type in the public API", "range": span, "specifier": SPECIFIER}
+    return diagnostic(("missing-explicit-type", span), SPECIFIER, DOCS)
 
 
 # the page of a diagnostic, as the program's definition of it says
@@ -151,21 +150,3 @@ def answered(name, content, answer):
 
 def first_module():
     return Module().variable("const", "x", '"a"').variable("let", "y", "1")
-
-
-def changed(path, value, module=None):
-    """The first module's request with the value at a path changed; `...` takes the member away."""
-    request = (module or first_module()).request()
-    node = request
-    for key in path[:-1]:
-        node = node[key]
-    if value is ...:
-        del node[path[-1]]
-    else:
-        node[path[-1]] = value
-    return request
-
-
-SOURCE = ("module", "source")
-BODY = SOURCE + ("program", "Module", "body")
-FIRST_VAR = BODY + (0, "ModuleDecl", "ExportDecl", "decl", "Var")

@@ -14,6 +14,7 @@ from bench.cases import cache_cases, cached_builds, forms
 from bench.cases.runs import EXAMPLES, FILES, Module, keyword, line
 from bench.cases.worlds import CASES as WORLDS
 from bench.check import packages
+from bench.oracle import diagnostics
 
 STATED = os.path.join(os.path.dirname(os.path.abspath(__file__)), "stated")
 
@@ -32,18 +33,10 @@ def repeated(part):
 # ---- a transformer that is called twice, without and with the option that answers the first fault alone
 
 
-# what the range is to the reader, of the kinds that say it
-DESCRIPTIONS = {
-    "missing-explicit-type": "this symbol is missing an explicit type",
-    "missing-explicit-return-type": "this function is missing an explicit return type",
-    "unsupported-super-class-expr": "this is the superclass expression",
-}
-
-
 def shown(fault, text):
     """What is reported of a diagnostic that the transform finds."""
     (start, end), size = fault["range"], len(text.encode())
-    said = DESCRIPTIONS.get(fault["code"])
+    said = diagnostics.ROWS[fault["code"]].range
     description = f'Some("{said}")' if said else "None"
     return [f"    refused: {fault['code']}", f"      location: {start} of {fault['specifier']}, which has {size} bytes",
             f"      snippet: {start} to {end} of {size} bytes: {description}", f"      description: {description}, mended: false",

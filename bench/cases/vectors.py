@@ -1,7 +1,7 @@
 """Writes what `crates/fast_check_vectors` reads (`data/`), and what it must print (`stdout`): runs of the program, and single calls (`single_calls`).
 
 Most runs stand in the folders beside this script as TypeScript, with what has to come out (`case_files`); their trees are those that tools/typescript reads.
-Trees that no text is read as, and odd tables, are made by Python (`odd_cases`, `odd_builds`, `plain_runs`, `refused_runs`, `hostile_cases`). What a skeleton has to be follows
+Trees that no text is read as, and odd tables, are made by Python (`odd_cases`, `odd_builds`, `comment_runs`, `refused_runs`, `hostile_cases`). What a skeleton has to be follows
 from the rules of `bench/oracle` alone: the program's own output is nowhere taken for right.
 
 Usage: python3 -m bench vectors             writes them. What the installed TypeScript does not read is taken as it is stored
@@ -11,15 +11,16 @@ import os
 import sys
 
 from bench.cases import build_files, hostile_cases, odd_builds, odd_cases, pair_cases, single_calls
-from bench.cases.case_files import SOURCES, Folder
-from bench.cases.plain_runs import comments, types, values
-from bench.cases.refused_runs import defaults, refusals, tables, with_tables
+from bench.cases.case_files import HERE, SOURCES, Folder, text_of
+from bench.cases.comment_runs import comments
+from bench.cases.refused_runs import defaults, refusals, with_tables
 from bench.cases.runs import (
     CASES, CRATE, DATA, DOCS, FILES, NO_GRAPH, RUNS, SPECIFIER, STDOUT, answered, case, line, module_answer, program, put, put_example, request, title,
 )
+from bench.oracle.diagnostics import diagnostic
 from bench.oracle.programs import TOP
 from bench.oracle.ranges import public_ranges, ranges_of_members, ranges_within
-from bench.oracle.skeletons import Skeleton, diagnostic
+from bench.oracle.skeletons import Skeleton
 from bench.oracle.trees import lay_items
 
 # ---- functions and values of all forms: what is stated by hand has to agree with what the rules give
@@ -74,7 +75,10 @@ def laid_out(case):
     made = Skeleton(case.items, ranges, impls, media_type, specifier=specifier, resolved=more.get("resolved"),
                     plain_classes=more.get("plain_classes", ()), exports=more.get("exports"), keyworded=more.get("keyworded", ()))
     faults = made.faults[:1] if first else made.faults
-    given = [stated(fault, text) for fault in faults] if faults else lay_items(made.items)[1]
+    if "stays" in more:
+        case.expected, given = [case.items[place] for place in more["stays"]], made.items
+    else:
+        given = [stated(fault, text) for fault in faults] if faults else lay_items(made.items)[1]
     if isinstance(case.expected, list) and faults and len(given) == len(case.expected):
         given = [wanted if wanted in found else found for wanted, found in zip(case.expected, given)]
     agree(case.name, "answer", case.expected, given)
@@ -127,7 +131,7 @@ def build(name, each):
         put(f"{name}.json", each.content)
         case(f"build {name}.json", 2, f"error: input refused: {each.word}\n")
         return
-    answers = each.world.answers(DOCS, each.without)
+    answers = each.world.answers(DOCS, getattr(each, "without", None))
     agree(name, "answer", each.expected, odd_builds.given(each.world, answers, lambda items: lay_items(items)[1]))
     put(f"{name}.json", each.request or each.world.request())
     case(f"build {name}.json", int(any("Err" in answer for _, answer in answers)), line(answers))
@@ -144,60 +148,32 @@ def hostile_builds():
         case(f"build {name}.json", 2 if is_refused else 0, f"error: input refused: {answers}\n" if is_refused else line(answers))
 
 
-def words():
-    title("words that are no command and a file")
-    usage = "usage: fast-check (build|transform|pair) FILE\n"
-    for text in ("", "transform", "transform both_public.json more", "check both_public.json", "build", "build build_nothing.json more",
-                 "pair", "pair pair_another_written_type.json more"):
-        case(text, 2, usage)
-    title("what one command asks is refused by the others")
-    case("build both_public.json", 2, "error: input refused: bad-form\n")
-    case("transform build_nothing.json", 2, "error: input refused: bad-form\n")
-    case("pair both_public.json", 2, "error: input refused: bad-form\n")
-    case("transform pair_another_written_type.json", 2, "error: input refused: bad-form\n")
-    title("a file that is not there")
-    case("transform missing.json", 2, "error: input refused: unreadable\n")
-    case("build missing.json", 2, "error: input refused: unreadable\n")
-    case("pair missing.json", 2, "error: input refused: unreadable\n")
-
-
-def streams():
-    title("an input that fails behind its last byte, and outputs that take nothing")
-    case("transform both_public.json <broken", 2, "error: input refused: unreadable\n")
-    case("check both_public.json <broken", 2, "usage: fast-check (build|transform|pair) FILE\n")
-    case("transform empty_module.json >closed", 4, "error: output refused\n")
-    case("transform no_type.json >closed", 4, "error: output refused\n")
-    case("transform empty_module.json >closed 2>closed", 4, "", is_told=False)
-    case("transform array.json >closed", 2, "error: input refused: bad-form\n")
-    case("transform array.json 2>closed", 2, "", is_told=False)
-    case("build build_nothing.json <broken", 2, "error: input refused: unreadable\n")
-    case("build build_nothing.json >closed", 4, "error: output refused\n")
-    case("build build_faults_of_two_entry_points.json >closed", 4, "error: output refused\n")
-    case("build build_nothing.json >closed 2>closed", 4, "", is_told=False)
-    case("build build_a_missing_symbol.json 2>closed", 2, "", is_told=False)
-    case("pair pair_another_written_type.json <broken", 2, "error: input refused: unreadable\n")
-    case("pair pair_another_written_type.json >closed", 4, "error: output refused\n")
-    case("pair pair_values_that_are_refused.json >closed 2>closed", 4, "", is_told=False)
+def commands():
+    """Runs of `commands.txt`: lines of what is said and of the status, and the words that the program is given."""
+    said = {"usage": "usage: fast-check (build|transform|pair) FILE\n", "output": "error: output refused\n", "silent": ""}
+    for line in text_of(os.path.join(HERE, "commands.txt")).split("\n"):
+        if line.startswith("# "):
+            title(line[2:])
+            continue
+        (word, status), words = (part.split() for part in line.split(":", 1))
+        case(" ".join(words), int(status), said.get(word, f"error: input refused: {word}\n"), is_told=word != "silent")
 
 
 def make():
     """Makes all files."""
     folders = {name: Folder(name, odd_cases.CASES) for name in ("variables", "functions", "new", "returns", "values", "classes", "modules", "namespaces", "expandos")}
     pairs, files = Folder("pairs", {}), build_files.files()
+    build_files.files("cached")
     transform_cases(folders.pop("variables"))
-    values()
-    types()
     comments()
     for folder in folders.values():
         transform_cases(folder)
     defaults()
     refusals()
-    tables()
     builds(files)
     hostile_builds()
     pair_cases.pairs(pairs, laid_out, agree)
-    words()
-    streams()
+    commands()
     put("cases", "".join(CASES).encode())
     for files, printed in single_calls.parts(RUNS):
         STDOUT.append(printed)

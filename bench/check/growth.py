@@ -5,7 +5,6 @@ import math
 import multiprocessing
 import os
 import subprocess
-import sys
 import tempfile
 
 from bench.check.program_path import program_path

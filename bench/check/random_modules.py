@@ -15,6 +15,7 @@ import tempfile
 
 from bench.check.program_path import program_path
 from bench.oracle import programs
+from bench.oracle.diagnostics import diagnostic
 from bench.oracle.items import put
 from bench.oracle.module_skeletons import range_of_default, range_of_specifier, sources_of
 from bench.oracle.module_trees import (
@@ -22,7 +23,7 @@ from bench.oracle.module_trees import (
     interface, named_export, named_import, namespace, namespace_export, property_signature, require, star_export, star_import, using,
 )
 from bench.oracle.nodes import variant
-from bench.oracle.skeletons import Skeleton, diagnostic
+from bench.oracle.skeletons import Skeleton
 from bench.oracle.trees import (
     FREE, MODULE, accessor, angle, array, array_of, array_pattern, arrow, as_, as_const, assign, assign_to, binary, block, call, class_, class_method,
     class_stmt, computed, computed_of, cond, constructor, declarator, decorated, decorator, default, empty_member, exported, fn_stmt, free, freeze,

@@ -8,7 +8,6 @@ The status is 1 where a run ended otherwise, or no run as before.
 
 Usage: python3 -m bench refused_names DRIVER
 """
-import os
 import sys
 import tempfile
 

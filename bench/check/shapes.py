@@ -12,9 +12,9 @@ Usage: python3 -m bench shapes PROGRAM [SHAPE ..]
 import json
 import sys
 
-from bench.cases import hostile_shapes
+from bench.cases import hostile_cases, hostile_shapes
 from bench.check.growth import MOST_EXPONENT, exponent, measured, row, spent
-from bench.check.tables import HOST, by_name, chain_to, definition, exports_of, file_ref, import_type, module, one_name, part, request, single, symbol, url
+from bench.check.tables import by_name, chain_to, definition, exports_of, file_ref, import_type, module, part, request, single, symbol, url
 
 HOSTILE_BYTES, MOST_SECONDS, MOST_BYTES_HELD = 100_000, 5, 500_000_000
 
@@ -124,7 +124,8 @@ WORKSPACES = {
     members_of_a_class: 16_000, modules_that_share_types: 1000, modules_of_their_own_barrel: 1000, members_of_a_workspace: 1000,
     packages_in_a_chain: 8000, packages_in_a_ring: 8000,
 }
-SHAPES = {made.__name__: made for made in (*WORKSPACES, *hostile_shapes.SHAPES)}
+HOSTILE = {shape: getattr(hostile_shapes, shape) for _, shape, _, _ in hostile_cases.stated() if hasattr(hostile_shapes, shape)}
+SHAPES = {**{made.__name__: made for made in WORKSPACES}, **HOSTILE}
 
 
 def measure_workspace(program, made):

@@ -6,32 +6,16 @@ chapters 16 to 18. No output of the program is taken for right.
 """
 import sys
 
+from bench.oracle.diagnostics import diagnostic
 from bench.oracle.module_skeletons import range_of_default, range_of_specifier, sources_of
 from bench.oracle.nodes import variant
 from bench.oracle.package_accounts import Closure, mismatch, without_nested
 from bench.oracle.package_rules import World as Rules, order_of
 from bench.oracle.package_worlds import HOST, nv_of, url_of
-from bench.oracle.skeletons import Skeleton, diagnostic
+from bench.oracle.skeletons import Skeleton
 from bench.oracle.trees import FREE, MODULE, lay_items
 
 KINDS = ["unsupported-private-member-reference", "not-found-reference", "unsupported-complex-reference"]
-BUG = "this error may be the result of a bug in Deno - if you think this is the case, please open an issue"
-SURE_BUG = "this error is the result of a bug in Deno and you don't be seeing it - please open an issue if one doesn't exist"
-INFERENCE = "JavaScript files with no corresponding declaration require type inference to be type checked"
-DECLARE = "add a type declaration (d.ts) for the JavaScript module, or rewrite it to TypeScript"
-# the hint and the lines that say more, of what the finder finds
-TEXTS = {
-    "not-found-reference": ("fix the reference to point to a symbol that exists", [BUG]),
-    "unsupported-complex-reference": ("extract the shared type to a type alias and reference the type alias instead",
-                                      ["the reference was too complex to be resolved by fast check"]),
-    "unsupported-private-member-reference": (
-        "extract the type of the private member to a type alias and reference the type alias instead",
-        ["private members can not be referenced from public API members", "this is because fast check removes private members from the types"]),
-    "export-not-found": (SURE_BUG, [SURE_BUG]),
-    "unsupported-javascript-entrypoint": (DECLARE, [INFERENCE, "fast check avoids type inference, so JavaScript entrypoints should be avoided"]),
-    "unsupported-nested-javascript": (
-        DECLARE, [INFERENCE, "fast check avoids type inference, so referencing a JavaScript file with no type declarations is not supported"]),
-}
 
 
 # ---- the symbols of a module
@@ -367,9 +351,6 @@ class World:
         made = []
         for place, code, message in faults:
             span = [int(each) for each in place.split()[0].split("-")] if place else None
-            hint, info = TEXTS[code]
-            level = "Warning" if code == "unsupported-javascript-entrypoint" else "Error"
             order = [*span, KINDS.index(code)] if span else []
-            made.append((order, message, {"code": code, "docs_url": pages + code, "hint": hint, "info": info, "level": level, "message": message,
-                                          "range": span, "specifier": url}))
+            made.append((order, message, diagnostic((code, span), url, pages, message)))
         return [told for _, _, told in sorted(made, key=lambda it: it[:2])]

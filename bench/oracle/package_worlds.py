@@ -198,10 +198,6 @@ def with_ranges(world):
     return {**world, 'ranges': sorted(ranges)}
 
 
-def world(name, text):
-    return with_ranges(WorldText(name, text).parts)
-
-
 NO_ITEMS = {'Module': {'span': [0, 0], 'body': [], 'shebang': None}}
 
 

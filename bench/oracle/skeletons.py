@@ -215,7 +215,7 @@ class Skeleton(Classes, Expandos, Modules):
         place = exported or range_of_default(decl)
         if place not in self.ranges:
             return None
-        if kind == "TsInterface":
+        if kind in ("TsInterface", "TsTypeAlias", "TsEnum"):
             return decl
         if kind == "Class":
             return {"Class": dict(node, **{"class": self.class_(node["class"], node["declare"] or self.is_ambient)})}
@@ -472,61 +472,3 @@ def emptied(pat):
     kind, node = variant(pat)
     field = {"Array": "elems", "Object": "props"}.get(kind)
     return {kind: dict(node, **{field: []})} if field else pat
-
-
-# ---- what a reader is shown of a fault
-
-ALL_FUNCTIONS = "all functions in the public API must have an explicit return type"
-COMMON_JS = "CommonJS features such as {} are not supported in ES modules"
-MODULE_TEXTS = {
-    "unsupported-default-export-expr": ("default export expression was too complex",
-        "add an 'as' clause with an explicit type after the expression, or extract to a variable",
-        ["fast check was unable to infer the type of the default export expression"]),
-    "unsupported-global-module": ("found global augmentations, which are not supported", "remove the 'global' augmentation",
-        ["global augmentations are not supported because they can modify global types, which can affect other modules type checking"]),
-    "unsupported-ambient-module": ("found an ambient module, which is a global augmentation, which are not unsupported", "remove the ambient module declaration",
-        ["ambient modules are not supported because they can modify the types of a module from outside of that module"]),
-    "unsupported-require": ("require statements are a CommonJS feature, which are not supported in ES modules", "use an import statement instead",
-        [COMMON_JS.format("require")]),
-    "unsupported-ts-export-assignment": ("export assignments are a Common JS feature, which are not supported in ES modules",
-        "use an export statement instead", [COMMON_JS.format("export assignments")]),
-    "unsupported-ts-namespace-export": ("found namespace export, which is a global augmentation, which are not unsupported", "remove the namespace export",
-        ["namespace exports are not supported because they can modify the types of a module from outside of that module"]),
-    "unsupported-using": ("using declarations are not supproted in the public API", "use 'const' instead of 'using'",
-        ["using declarations have unclear semantics in the public API", "they are thus not supported in the public API"])}
-NO_RETURNS = "this function has no return statements, so a return type could not be inferred automatically"
-
-
-def texts(code, is_definitely, is_async):
-    """The message, the hint and the lines that say more."""
-    if code == "missing-explicit-type":
-        return "missing explicit type in the public API", "add an explicit type annotation to the symbol", \
-            ["all symbols in the public API must have an explicit type"]
-    if code == "unsupported-destructuring":
-        return ("found destructuring, which is not supported in the public API", "separate each destructured symbol into its own export statement",
-                ["destructuring can not be inferred by fast check"])
-    if code == "unsupported-super-class-expr":
-        return ("super class expression was too complex", "extract the superclass expression into a variable",
-                ["fast check was unable to infer the type of the superclass expression"])
-    if code in MODULE_TEXTS:
-        return MODULE_TEXTS[code]
-    if code == "unsupported-expando-property":
-        return (f"expando property referencing '{is_async}' conflicts with '{is_definitely}.{is_async}'",
-                f"rename '{is_async}' to something else to avoid conflicts or create a temporary variable with a different name to use in the expando property reference",
-                ["expando properties get converted to a namespace and the reference conflicts with a namespace export"])
-    message, hint, info = "missing explicit return type in the public API", "add an explicit return type to the function", [ALL_FUNCTIONS]
-    if is_definitely:
-        hint = "add an explicit return type of 'void' or 'never' to the function"
-        offered = ("async function expressions without a return statement can have a return type of either 'Promise<void>' or 'Promise<never>'" if is_async else
-                   "function expressions without a return statement can have a return type of either 'void' or 'never'")
-        info = [ALL_FUNCTIONS, offered, NO_RETURNS]
-    elif is_async:
-        hint = "add an explicit return type of 'Promise<void>' or 'Promise<never>' to the function"
-    return message, hint, info
-
-
-def diagnostic(fault, specifier, pages):
-    """What is printed of a fault. The page of each kind of fault stands at `pages` and the kind's name."""
-    code, place, is_definitely, is_async = fault
-    message, hint, info = texts(code, is_definitely, is_async)
-    return {"code": code, "docs_url": pages + code, "hint": hint, "info": info, "level": "Error", "message": message, "range": place, "specifier": specifier}

@@ -677,7 +677,7 @@ LAYOUTS = {
     "ident": [word("sym")],
     "ident_name": [word("sym")],
     "hash_name": ["#", word("name")],
-    "literal": {"Str": [word("raw")], "Bool": [lambda source, node: source.write("true" if node["value"] else "false")], "Null": ["null"], "Num": [word("raw")],
+    "literal": {"Str": [lambda source, node: source.write(node["raw"] or json.dumps(node["value"]))], "Bool": [lambda source, node: source.write("true" if node["value"] else "false")], "Null": ["null"], "Num": [word("raw")],
                 "Number": [word("raw")], "BigInt": [word("raw")], "Regex": ["/", word("exp"), "/", word("flags")], "JSXText": JSX},
     "ann": [": ", one("type_ann", "type")],
     "result": ["=> ", one("type_ann", "type")],

@@ -28,10 +28,8 @@ import os
 import queue
 import re
 import shutil
-import subprocess
 import sys
 import tempfile
-import threading
 import time
 from concurrent.futures import ThreadPoolExecutor
 from dataclasses import dataclass, field
@@ -57,29 +55,6 @@ ERROR = re.compile(r"(?:\./)?(proofs/\S+?):(\d+):\d+: error: `")
 LOOKS = {"data": re.compile(r"\b(search|grind)\b"), "record": re.compile(r"\b(search|grind|cc|omega)\b")}
 # A proof that only cites another one which was refused.
 CITES = re.compile(r"depends? on `|is not admitted|was not admitted")
-# What of a crate its edits rest on.
-OF_CRATE = re.compile(r"crates/[^/]+/(?:src|specs|proofs|must-fail)/|mutants/[^/]+(?:/|\.edits)")
-# A name (but no byte in quotes), and what a text of code is made of: texts in quotes, names, numbers, white space, and every other sign by itself.
-NAMED = re.compile(r"(?!b'.')[A-Za-z_][A-Za-z0-9_']*")
-PART = re.compile(rf"b?\"(?:[^\"\\]|\\.)*\"|b?'(?:\\.[^']*|[^'\\])'|{NAMED.pattern}|\d+|\s+|.", re.S)
-# A `use` line that stands by itself.
-USE = {
-    ".rt": re.compile(r"^(?:pub(?:\([^)]*\))? |ghost )*use [^;]+;", re.M),
-    ".antt": re.compile(r"^(?:pub )?use [^\s{]+(?:\{[^}]*\})?(?: as \S+)?$", re.M),
-}
-# A proof of a function, whose names come from the function.
-OF_FUNCTION = re.compile(r"/(?:Answers|Invariants)\.antt$")
-# Names that an item declares, a field or a case of one, and what a file of definitions declares.
-DECLARED = re.compile(r"\b(?:fn|struct|enum|trait|type|const|static|mod) (\w+)")
-IN_DECLARATION = re.compile(r"(\w+)\s*:(?!:)|[{,\]]\s*(\w+)")
-DECLARED_ANTT = re.compile(r"^\s*(?:pub |abbrev |unfoldable )*(?:(?:data|record|module|mod) ([^\s:(){}]+)|([^\s:(){}]+) :(?=\s))", re.M)
-# A module that a file of definitions or proofs passes on under a name of its own.
-PASSED_ON = re.compile(r"^pub use \S+ as (\S+)$", re.M)
-# Words of the language, which are not renamed.
-FIXED = set(
-    "as bool break char const continue crate cycle dyn else enum ensures extern f32 f64 false fn for ghost i128 i16 i32 i64 i8 if impl in isize let loop match mod move "
-    "mut old pub ref requires result return self static str struct super trait true type u128 u16 u32 u64 u8 unsafe use usize where while".split()
-)
 # What a proof file says of a name that an edit took away.
 BY_NAME_LINE = re.compile(r"(\./)?proofs/.*(has no field|is not in scope|has no `|was not admitted)")
 

@@ -1,0 +1,1 @@
+export const a = x as number;

@@ -1,0 +1,1 @@
+export let a = x as Name;

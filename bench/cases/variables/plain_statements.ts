@@ -1,0 +1,1 @@
+; debugger; {} f(); if (f()) return; while (f()) break; throw f(); const enum Size { S = "x", "L" }
