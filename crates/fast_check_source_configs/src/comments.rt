@@ -32,14 +32,19 @@ fn named_by<'a>(comment: &'a str, words: [&str; 2]) -> Option<&'a str> {
 
 // The text of the last comment before a place of a text, if nothing else stands between.
 fn comment_before(text: &str, place: usize) -> Option<&str> {
-    let before = text.get(..place)?.trim_end();
-    if let Some(rest) = before.strip_suffix("*/") {
+    let before = text.get(..place)?;
+    let written = before.trim_end();
+    if let Some(rest) = written.strip_suffix("*/") {
         let start = rest.rfind("/*")?;
         return rest.get(start.saturating_add(2)..);
     }
-    let line = match before.rsplit_once('\n') {
+    // A line is looked through only where the statement stands on another one.
+    if !before.get(written.len()..)?.contains("\n") {
+        return None;
+    }
+    let line = match written.rsplit_once('\n') {
         Some((_, line)) => line,
-        None => before,
+        None => written,
     };
     line.trim_start().strip_prefix("//")
 }

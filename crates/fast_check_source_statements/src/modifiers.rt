@@ -110,7 +110,9 @@ pub fn member_modifiers(tokens: &mut Tokens<'_>) -> Modifiers {
         let Some(more) = found.with(tokens.at.word()) else {
             break;
         };
-        if !is_before_key(tokens.at, tokens.at.is_word(Keyword::Static)) {
+        let is_static = tokens.at.is_word(Keyword::Static);
+        // A second `static` is the key.
+        if is_static && found.is_static || !is_before_key(tokens.at, is_static) {
             break;
         }
         found = more;

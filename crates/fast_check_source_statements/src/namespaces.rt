@@ -26,8 +26,12 @@ impl<F: Fn(Global, &mut Tokens<'_>, usize, Rule) -> Result<Tree, ParseError>> St
         Ok(TsModuleBlock { span, body }.into_tree(self.expressions.values.types.grammar.alloc)?)
     }
 
-    // `.b.c { .. }`, `{ .. }` or nothing behind the name of a namespace.
-    fn namespace_body(&self, tokens: &mut Tokens<'_>) -> Result<Tree, ParseError>
+    // `.b.c { .. }`, `{ .. }`, or nothing where that may be, behind the name of a namespace.
+    fn namespace_body(
+        &self,
+        tokens: &mut Tokens<'_>,
+        may_end: bool,
+    ) -> Result<Tree, ParseError>
         requires { Nests self.now.expressions.values.types.grammar.depth (F.pre self.now.expressions.values.types.grammar.parse) }
     {
         let alloc = self.expressions.values.types.grammar.alloc;
@@ -41,7 +45,7 @@ impl<F: Fn(Global, &mut Tokens<'_>, usize, Rule) -> Result<Tree, ParseError>> St
             let id = word_ident(alloc, tokens)?;
             names.push(Inner { start, id })?;
         }
-        if names.is_empty() && !tokens.at.is(TokenKind::LBrace) {
+        if may_end && names.is_empty() && !tokens.at.is(TokenKind::LBrace) {
             tokens.at.end_statement()?;
             return Ok(Tree::Absent);
         }
@@ -71,6 +75,7 @@ impl<F: Fn(Global, &mut Tokens<'_>, usize, Rule) -> Result<Tree, ParseError>> St
         if !global {
             tokens.at.advance();
         }
+        let may_end = global || tokens.at.is(TokenKind::String);
         let id = if tokens.at.is(TokenKind::String) {
             string(alloc, tokens)?
         } else {
@@ -81,7 +86,7 @@ impl<F: Fn(Global, &mut Tokens<'_>, usize, Rule) -> Result<Tree, ParseError>> St
             global,
             namespace,
             id,
-            body: self.namespace_body(tokens)?,
+            body: self.namespace_body(tokens, may_end)?,
             span: tokens.at.from(opening.start),
         };
         Ok(made.into_tree(alloc)?)

@@ -231,6 +231,10 @@ impl<F: Fn(Global, &mut Tokens<'_>, usize, Rule) -> Result<Tree, ParseError>> Ty
             quasis.push(quasi(self.grammar.alloc, tokens)?)?;
             tokens.at.advance();
         }
+        // The text ends within the template.
+        if goes_on {
+            return Err(tokens.at.refuse());
+        }
         Ok((Tree::list(parts), Tree::list(quasis)))
     }
 
