@@ -3,9 +3,10 @@
 // Compares what `fast-check-source` answers of packages with what `fast-check build` answers of the input that tools/typescript makes of them. Scopes may have
 // other numbers.
 //
-//     tools/repo/compare_packages.js PROGRAM FAST_CHECK [--below] FOLDER..
+//     tools/repo/compare_packages.js PROGRAM FAST_CHECK [--below | --files] FOLDER..
 //
-// Each folder is a package, or a workspace; with `--below` each package below the folders, as `sweep.js` finds them. One that TypeScript's compiler does not
+// Each folder is a package, or a workspace; with `--below` each package below the folders, as `sweep.js` finds them. With `--files` packages are made of the
+// files below the folders that TypeScript's parser reads and that name no other module, as they are, each an entry point. One that TypeScript's compiler does not
 // read is not compared. The last line counts the folders and the modules whose answers are equal. The status is 1 where any answer differs.
 
 const fs = require('fs');
@@ -13,10 +14,10 @@ const os = require('os');
 const path = require('path');
 const { spawnSync } = require('child_process');
 
+const { whole: ts } = require('../typescript/src/compiler/typescript.js');
 const { packagesBelow } = require('../typescript/dev/sweep.js');
+const { main } = require('../typescript/src/cli/main.js');
 const { isMarked, restored } = require('../typescript/src/skeleton/restored.js');
-
-const TOOL = path.join(__dirname, '../typescript/bin/fast-check-ts.js');
 
 /** A value without the members that have their defaults, and without what no rule asks for: scopes of forms, places of comments. Scopes of names are numbered in the order of the members, but for 1 and 2. */
 function plain(value, numbers = new Map([[1, 1], [2, 2]])) {
@@ -75,29 +76,94 @@ function differences(answers, wanted) {
   });
 }
 
-/** How the answers of a folder compare: a word, what there is to say of it, and how many modules are equal and how many differ. */
-function compare(program, fastCheck, folder) {
-  const mine = spawnSync(program, [folder], { maxBuffer: 1 << 30, encoding: 'utf8' });
-  const made = spawnSync(process.execPath, [TOOL, 'input', folder], { maxBuffer: 1 << 30, encoding: 'utf8', env: { ...process.env, FAST_CHECK: fastCheck } });
-  const said = (kind, ...lines) => ({ kind, lines, equal: 0, differ: 0 });
-  if (!made.stdout.trim()) {
-    const errors = mine.stdout.trim() ? JSON.parse(mine.stdout).errors : [];
-    return errors.length || mine.status === 2 ? said('both refuse') : said('mine alone reads', made.stderr.split('\n')[0]);
+/** What the front end makes of a folder: the input, or nothing and why. */
+async function inputOf(fastCheck, folder) {
+  const io = { cwd: folder, environment: { ...process.env, FAST_CHECK: fastCheck }, out: new Text(), err: new Text() };
+  const status = await main(['input', folder, '--no-cache'], io);
+  return { status, input: io.out.text.trim(), said: io.err.text.split('\n')[0] };
+}
+
+/** A stream that keeps what is written. */
+class Text {
+  constructor() {
+    this.text = '';
   }
-  if (!mine.stdout.trim()) return said('no answer', `${mine.status} ${mine.signal} ${mine.stderr.slice(0, 200)}`);
-  const { answers, errors } = JSON.parse(mine.stdout);
-  if (errors.length && made.status === 0) return said('mine alone refuses', show(errors));
-  const wanted = answersOf(fastCheck, made.stdout);
+
+  write(text) {
+    this.text += text;
+  }
+}
+
+/** How what the program says of a folder compares: a word, what there is to say of it, and how many modules are equal and how many differ. */
+async function compare(fastCheck, folder, mine) {
+  const { status, input, said: why } = await inputOf(fastCheck, folder);
+  const said = (kind, ...lines) => ({ kind, lines, equal: 0, differ: 0 });
+  if (!input) {
+    const errors = mine.line ? JSON.parse(mine.line).errors : [];
+    return errors.length || mine.status === 2 ? said('both refuse') : said('mine alone reads', why);
+  }
+  if (!mine.line) return said('no answer', `${mine.status} ${mine.signal} ${mine.stderr.slice(0, 200)}`);
+  const { answers, errors } = JSON.parse(mine.line);
+  if (errors.length && status === 0) return said('mine alone refuses', show(errors));
+  const wanted = answersOf(fastCheck, input);
   if (wanted === null) return said('the program answers nothing');
   const lines = differences(answers, wanted);
   return { ...said(lines.length ? 'differs' : 'equal', ...lines), equal: wanted.length - lines.length, differ: lines.length };
 }
 
-function main([program, fastCheck, ...words]) {
-  const folders = words[0] === '--below' ? words.slice(1).flatMap((it) => packagesBelow(path.resolve(it))) : words;
+/** What the program says of each of some folders. */
+function told(program, folders) {
+  const { status, signal, stdout, stderr } = spawnSync(program, folders, { maxBuffer: 1 << 30, encoding: 'utf8' });
+  const lines = stdout.split('\n').filter(Boolean);
+  if (folders.length === 1) return [{ line: lines[0], status, signal, stderr }];
+  return lines.length === folders.length ? lines.map((line) => ({ line, status, signal, stderr })) : folders.flatMap((it) => told(program, [it]));
+}
+
+// How many packages of one file the program is asked of at once.
+const FILES = 200;
+// What names another module, or a file.
+const NAMES_OTHERS = /\bfrom\s*["']|\bimport\s*["'(]|\brequire\s*\(|<reference\s|\bdeclare\s+module\s*["']/;
+
+/** The files below a folder that TypeScript's parser reads and that name no other module. */
+function filesBelow(folder) {
+  return fs.readdirSync(folder, { withFileTypes: true }).flatMap((it) => {
+    const file = path.join(folder, it.name);
+    if (it.isDirectory()) return filesBelow(file);
+    if (!/\.[cm]?tsx?$/.test(it.name)) return [];
+    const text = fs.readFileSync(file, 'utf8');
+    return text.includes('\ufffd') || NAMES_OTHERS.test(text) || ts.createSourceFile(file, text, ts.ScriptTarget.ESNext).parseDiagnostics.length ? [] : [file];
+  });
+}
+
+/** Packages of one file each. */
+function packagesOf(files, top) {
+  return files.map((file, at) => {
+    const [folder, name] = [path.join(top, String(at)), `m${/(\.d)?\.[cm]?tsx?$/.exec(file)[0]}`];
+    fs.mkdirSync(folder);
+    fs.copyFileSync(file, path.join(folder, name));
+    fs.writeFileSync(path.join(folder, 'deno.json'), JSON.stringify({ name: '@files/file', version: '1.0.0', exports: `./${name}` }));
+    return folder;
+  });
+}
+
+async function* compared(program, fastCheck, words) {
+  if (words[0] !== '--files') {
+    const folders = words[0] === '--below' ? words.slice(1).flatMap((it) => packagesBelow(path.resolve(it))) : words;
+    for (const folder of folders) yield { ...await compare(fastCheck, folder, told(program, [folder])[0]), folder };
+    return;
+  }
+  const files = words.slice(1).flatMap((it) => filesBelow(path.resolve(it)));
+  for (let at = 0; at < files.length; at += FILES) {
+    const top = fs.mkdtempSync(path.join(os.tmpdir(), 'files-'));
+    const folders = packagesOf(files.slice(at, at + FILES), top);
+    for (const [place, mine] of told(program, folders).entries()) yield { ...await compare(fastCheck, folders[place], mine), folder: files[at + place] };
+    fs.rmSync(top, { recursive: true });
+  }
+}
+
+async function run([program, fastCheck, ...words]) {
   const [counts, modules] = [{}, { equal: 0, differ: 0 }];
-  for (const folder of folders) {
-    const { kind, lines, equal, differ } = compare(program, fastCheck, folder);
+  for await (const { folder, kind, lines, equal, differ } of compared(program, fastCheck, words)) {
     counts[kind] = (counts[kind] || 0) + 1;
     modules.equal += equal;
     modules.differ += differ;
@@ -107,4 +173,6 @@ function main([program, fastCheck, ...words]) {
   return Object.keys(counts).every((it) => ['equal', 'both refuse', 'mine alone reads'].includes(it)) ? 0 : 1;
 }
 
-process.exitCode = main(process.argv.slice(2));
+run(process.argv.slice(2)).then((status) => {
+  process.exitCode = status;
+});

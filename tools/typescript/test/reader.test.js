@@ -72,16 +72,22 @@ test('a program of another version', async () => {
 // ---- which reader it is
 
 for (const words of [['check', 'other'], ['skeleton', 'other'], ['diff', 'other', 'other']]) {
-  test(`${words[0]} reads by the program where it is there and nothing is kept`, async () => {
+  test(`${words[0]} reads by the program where it is there`, async () => {
     const body = 'echo "error: out of memory" >&2; exit 3';
     same((await runThere(words, body)).status, 3, 'the status');
     holds((await runThere([...words, '--reader', 'typescript'], body)).status < 3, 'the compiler reads too');
   });
 }
-test('check reads by the compiler where what it reads is kept', () => withFolder(async (folder) => {
-  const [program, environment] = [path.join(folder, 'program'), { XDG_CACHE_HOME: folder }];
-  fs.writeFileSync(program, '#!/bin/sh\nexit 3\n', { mode: 0o755 });
-  same((await run(['check', 'other'], { cwd: path.join(CRATE, 'data'), environment: { ...environment, FAST_CHECK_SOURCE: program } })).status, 1, 'the status');
+test('check reads by the compiler where an earlier run had something to say by its words', () => withFolder(async (folder) => {
+  const [program, environment] = [path.join(folder, 'program'), { XDG_CACHE_HOME: path.join(folder, 'kept') }];
+  write(path.join(folder, 'odd'), { 'mod.ts': 'import "nowhere";\nexport const one: number = 1;\n' });
+  const ran = async (/** @type {string} */ body, /** @type {string} */ text) => {
+    fs.writeFileSync(program, `#!/bin/sh\n${body}\n`, { mode: 0o755 });
+    fs.appendFileSync(path.join(folder, 'odd/mod.ts'), text);
+    return (await run(['check', 'odd'], { cwd: folder, environment: { ...environment, FAST_CHECK_SOURCE: program } })).status;
+  };
+  same(await ran(`echo '${REFUSED}'; exit 2`, ''), 0, 'the status by the compiler behind the program');
+  same(await ran('exit 3', '// changed\n'), 0, 'the status by the compiler alone');
 }));
 test('check reads by the compiler where the program is not there', () => withFolder(async (folder) => {
   const program = path.join(folder, 'fast-check');

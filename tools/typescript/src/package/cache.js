@@ -269,6 +269,15 @@ class Kept {
     if (this.folder) this.folder.put(this.keyOf('answers', root), answers);
   }
 
+  /** Whether an earlier run noted that the compiler reads a folder, whose trees are kept, and not the program. */
+  isForCompiler(/** @type {string} */ root) {
+    return Boolean(this.folder && this.folder.get(this.keyOf('reader', root)));
+  }
+
+  noteForCompiler(/** @type {string} */ root) {
+    if (this.folder) this.folder.put(this.keyOf('reader', root), {});
+  }
+
   /** The last answer that is kept under a name, or null. */
   lastOf(/** @type {string} */ name) {
     return this.folder && this.folder.entry(this.keyOf('last', name));

@@ -315,7 +315,7 @@ function withAnswers(world, answers, { cwd }) {
  * @returns {Promise<World>}
  */
 async function analyse(dir, options, context) {
-  const program = sourceProgram(options, context);
+  const program = sourceProgram(dir, options, context);
   return program ? analyseBySource(program, dir, options, context) : analyseByCompiler(dir, options, context);
 }
 
@@ -340,11 +340,14 @@ async function analyseByCompiler(dir, options, context) {
 /** @type {(keyof AnalyseOptions)[]} */
 const BY_COMPILER = ['name', 'version', 'exports', 'rules', 'texts', 'within', 'treesOf', 'members', 'keepSourceFiles', 'verify', 'dts', 'withDts', 'watch'];
 
-/** The program that reads folders, where it is to; null where the compiler is. Where both may, the compiler's reader does what it keeps for later runs, which take less by it. */
-function sourceProgram(/** @type {AnalyseOptions} */ options, /** @type {RunContext} */ { environment }) {
-  const { reader = 'typescript' } = options;
+// A folder of more files is read by the compiler from the second run on: what it keeps takes less then than to read all again.
+const MANY = 100;
+
+/** The program that reads folders, where it is to; null where the compiler is. */
+function sourceProgram(/** @type {string} */ dir, /** @type {AnalyseOptions} */ options, /** @type {RunContext} */ { environment }) {
+  const { reader = 'typescript', kept } = options;
   if (reader === 'typescript' || BY_COMPILER.some((it) => options[it])) return null;
-  if (reader === EITHER && options.kept && options.kept.folder && candidateFiles().length) return null;
+  if (reader === EITHER && kept && candidateFiles().length && kept.isForCompiler(path.resolve(dir))) return null;
   const program = sourceProgramFile(environment);
   if (program || reader === EITHER) return program;
   throw new ProgramError('there is no fast-check-source beside the other program, and the variable FAST_CHECK_SOURCE names none', 5);
@@ -363,6 +366,8 @@ function sourceProgram(/** @type {AnalyseOptions} */ options, /** @type {RunCont
 async function analyseBySource(program, dir, options, context) {
   const { cwd } = context;
   const { answers, told, info, request } = await readBySource(program, dir, options, context);
+  const note = () => options.kept && options.kept.noteForCompiler(path.resolve(dir));
+  if (told.files.length > MANY) note();
   /** @type {World | null} */
   let own = null;
   if (info) {
@@ -370,6 +375,7 @@ async function analyseBySource(program, dir, options, context) {
     own = { ...withAnswers(read, answers, context), isBySource: true };
     if (!options.preview || own.messages.every(({ level }) => level === 'Warning')) return own;
   }
+  note();
   try {
     return await analyseByCompiler(dir, options, context);
   } catch (error) {

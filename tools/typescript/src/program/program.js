@@ -14,7 +14,7 @@ function programFile(/** @type {Record<string, string | undefined>} */ { FAST_CH
   return named || (isClone || !isForHere() ? undefined : PROGRAM);
 }
 
-// The reader of a command that names none: the program that reads folders itself, where it is there and nothing is kept for later runs, else the compiler's.
+// The reader of a command that names none: the program that reads folders itself, where it is there, but for folders that an earlier run noted as the compiler's.
 const EITHER = 'either';
 // Where it lies from the folder of the other program: in a package, and among what the gate builds.
 const SOURCE_PROGRAMS = ['fast-check-source', 'fast_check_source', '../../fast_check_source/out/fast_check_source'];
