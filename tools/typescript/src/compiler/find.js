@@ -91,4 +91,4 @@ function candidateFiles() {
   return [chosen.own || [], process.env.TYPESCRIPT || [], 'typescript', DEBIAN].flat().filter(isThere).map((name) => require.resolve(name));
 }
 
-module.exports = { NO_COMPILER, candidateFiles, chosen, isVersionFrom, keepIn, loadCompiler, lookIn };
+module.exports = { NO_COMPILER, candidateFiles, chosen, isVersionFrom, keepIn, loadCompiler, lookIn, refuseWrongVariable };

@@ -18,7 +18,7 @@ const { withTreesOf } = require('./request.js');
 const { variantOf } = require('../tree/walk.js');
 const { previewOf } = require('./preview.js');
 const { skeletonMessages } = require('../skeleton/messages.js');
-const { NO_COMPILER, candidateFiles } = require('../compiler/find.js');
+const { NO_COMPILER, candidateFiles, refuseWrongVariable } = require('../compiler/find.js');
 const typescript = require('../compiler/typescript.js');
 
 /** @typedef {import('../messages/types').Message} Message */
@@ -347,6 +347,7 @@ const MANY = 100;
 function sourceProgram(/** @type {string} */ dir, /** @type {AnalyseOptions} */ options, /** @type {RunContext} */ { environment }) {
   const { reader = 'typescript', kept } = options;
   if (reader === 'typescript' || BY_COMPILER.some((it) => options[it])) return null;
+  if (reader === EITHER) refuseWrongVariable();
   if (reader === EITHER && kept && candidateFiles().length && kept.isForCompiler(path.resolve(dir))) return null;
   const program = sourceProgramFile(environment);
   if (program || reader === EITHER) return program;
