@@ -27,11 +27,7 @@ impl<F: Fn(Global, &mut Tokens<'_>, usize, Rule) -> Result<Tree, ParseError>> St
     }
 
     // `.b.c { .. }`, `{ .. }`, or nothing where that may be, behind the name of a namespace.
-    fn namespace_body(
-        &self,
-        tokens: &mut Tokens<'_>,
-        may_end: bool,
-    ) -> Result<Tree, ParseError>
+    fn namespace_body(&self, tokens: &mut Tokens<'_>, may_end: bool) -> Result<Tree, ParseError>
         requires { Nests self.now.expressions.values.types.grammar.depth (F.pre self.now.expressions.values.types.grammar.parse) }
     {
         let alloc = self.expressions.values.types.grammar.alloc;
