@@ -488,9 +488,9 @@ def tried():
     return dict(it.split() for it in TRIED.read_text().splitlines()) if TRIED.is_file() else {}
 
 
-def note_tried(crate):
-    """Notes that all edits of a crate were refused."""
-    noted = {**tried(), crate: hash_of(crate)}
+def note_tried(crate, state):
+    """Notes that all edits of a crate were refused as it was of this hash."""
+    noted = {**tried(), crate: state}
     TRIED.write_text("".join(f"{name} {it}\n" for name, it in sorted(noted.items())))
 
 
