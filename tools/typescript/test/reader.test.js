@@ -2,8 +2,9 @@
 // `--reader source`: beside the other reader, with the program itself; and with a program in its place that prints the lines which the gate compares the proved one's with.
 const childProcess = require('child_process');
 const fs = require('fs');
+const os = require('os');
 const path = require('path');
-const { test } = require('node:test');
+const { after, test } = require('node:test');
 const { sourceProgramFile } = require('../src/program/program.js');
 const { run, same, holds, readOr, untimed, withFolder, write, LAUNCHER, PACKAGES, TOP } = require('./support/helpers.js');
 const { NAMES: STORED, NEWER, READS_NONE, expectedOf, withoutClosing } = require('./support/stored.js');
@@ -99,14 +100,17 @@ test('check reads by the compiler where the program is not there', () => withFol
 
 // ---- beside the other reader
 
+// What the compiler's reader keeps of the packages, so that one run of each loads it.
+const KEPT = fs.mkdtempSync(path.join(os.tmpdir(), 'readers-'));
+after(() => fs.rmSync(KEPT, { recursive: true }));
+
 /** What both readers say, by some words. */
 async function bothSay(/** @type {string[]} */ words, /** @type {string} */ cwd) {
-  const environment = { FAST_CHECK_SOURCE: PROGRAM || '' };
-  const said = async (/** @type {string} */ reader) => {
-    const { status, out, err } = await run([...words, '--no-cache', '--reader', reader, '.'], { cwd, environment });
+  const said = async (/** @type {string[]} */ ...more) => {
+    const { status, out, err } = await run([...words, ...more, '.'], { cwd, environment: { FAST_CHECK_SOURCE: PROGRAM || '', XDG_CACHE_HOME: KEPT } });
     return `status ${status}\n${out}$ standard error\n${err}`;
   };
-  return [await said('source'), await said('typescript')];
+  return [await said('--no-cache', '--reader', 'source'), await said('--reader', 'typescript')];
 }
 
 test('both readers say the same in diff', { skip }, async () => {
