@@ -78,7 +78,7 @@ function differences(answers, wanted) {
 
 /** What the front end makes of a folder: the input, or nothing and why. */
 async function inputOf(fastCheck, folder) {
-  const io = { cwd: folder, environment: { ...process.env, FAST_CHECK: fastCheck }, out: new Text(), err: new Text() };
+  const io = { cwd: process.cwd(), environment: { ...process.env, FAST_CHECK: fastCheck }, out: new Text(), err: new Text() };
   const status = await main(['input', folder, '--no-cache'], io);
   return { status, input: io.out.text.trim(), said: io.err.text.split('\n')[0] };
 }
