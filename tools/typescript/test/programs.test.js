@@ -5,6 +5,7 @@ const fs = require('fs');
 const path = require('path');
 const { test } = require('node:test');
 const { whole: ts } = require('../src/compiler/typescript.js');
+const { sourceProgramFile } = require('../src/program/program.js');
 const { run, same, holds, withFolder, readOr, COMPILER, LAUNCHER, PACKAGES, DOCS, TOP } = require('./support/helpers.js');
 
 /** Programs in the place of fast check that fail in their ways. */
@@ -123,8 +124,11 @@ test('the example of many packages', { skip: !hasDask && 'Dask is not there' }, 
   same(fs.readFileSync(path.join(folder, 'results.jsonl'), 'utf8').trim().split('\n').length, all.length, 'its lines');
 }));
 const hasDpkg = ['dpkg-shlibdeps', 'dpkg-deb', 'strip'].every((it) => isThere(it, ['--version']));
-test('the example of the package to install', { skip: !hasDpkg && 'dpkg-dev is not there' }, () => withFolder((folder) => {
-  const { status, stdout, stderr } = childProcess.spawnSync(path.join(TOP, 'tools/debian/build.sh'), [folder], { encoding: 'utf8', input: '' });
+const source = sourceProgramFile(process.env);
+const lacks = !hasDpkg ? 'dpkg-dev is not there' : !source && 'fast-check-source is not built';
+test('the example of the package to install', { skip: lacks }, () => withFolder((folder) => {
+  const env = { ...process.env, FAST_CHECK_SOURCE: source || '' };
+  const { status, stdout, stderr } = childProcess.spawnSync(path.join(TOP, 'tools/debian/build.sh'), [folder], { env, encoding: 'utf8', input: '' });
   same(status, 0, `the status of\n${stderr}\nthat`);
   childProcess.execFileSync('dpkg-deb', ['-x', stdout.trim(), folder]);
   const example = '/usr/share/doc/nagdrez/examples/package';
