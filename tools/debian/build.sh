@@ -23,20 +23,7 @@ fail() {
   exit "$1"
 }
 
-# Finds the program of a crate: the one that is named, else the proved one. It is proved where it was built here, of the sources as they are.
-find_program() {
-  local crate=$1 built="$top/crates/$1/out/$1"
-  found=$2
-  if [ -z "$found" ]; then
-    found=$built
-    "$top/fast-check-build" "$crate" >&2 || fail 5 "the program is not built"
-  elif [[ ! $found -ef $built || -n $(find "$top/crates.txt" "$top"/crates/*/{src,specs,proofs} -newer "$built" -print -quit 2> /dev/null) ]]; then
-    proof="Not everything is proved of the programs in this package."
-    echo "build.sh: $found was not proved here, or of other sources: the version is $version~unproved" >&2
-  fi
-  [[ -f $found && -x $found ]] || fail 5 "there is no program $found"
-  found=$(readlink -f "$found")
-}
+. "$top/tools/find-program.sh"
 
 # Says the sums of a program, as it is packed and as it was built.
 say_sums() {
@@ -122,13 +109,17 @@ if [ "$reproducible" ]; then
 fi
 
 version=$(< "$top/VERSION")
-all_proved="Every function of the programs is proved to meet its contract."
-proof=$all_proved
+unproved=
 find_program fast_check_cli "${FAST_CHECK-}"
 program=$found
 find_program fast_check_source "${FAST_CHECK_SOURCE-}"
 source_program=$found
-[ "$proof" = "$all_proved" ] || version+="~unproved"
+proof="Every function of the programs is proved to meet its contract."
+if [ "$unproved" ]; then
+  proof="Not everything is proved of the programs in this package."
+  version+="~unproved"
+  echo "build.sh: $unproved was not proved here, or of other sources: the version is $version" >&2
+fi
 
 folder=${1:-$here/out}
 mkdir -p "$folder"

@@ -10,7 +10,7 @@ set -eu
 umask 022
 here=$(cd "$(dirname "$(readlink -f "${BASH_SOURCE[0]}")")" && pwd)
 top=$(cd "$here/../.." && pwd)
-suffix=
+unproved=
 
 fail() {
   echo "build.sh: $2" >&2
@@ -20,22 +20,11 @@ fail() {
 for tool in npm node strip sha256sum; do
   command -v "$tool" > /dev/null || fail 5 "$tool is not there; on Debian: apt-get install -y npm nodejs binutils"
 done
-# Finds the program of a crate: the one that is named, else the proved one.
-find_program() {
-  local crate=$1 built="$top/crates/$1/out/$1"
-  program=$2
-  if [ -z "$program" ]; then
-    program=$built
-    "$top/fast-check-build" "$crate" >&2 || fail 5 "the program is not built"
-  elif [[ ! $program -ef $built || -n $(find "$top/crates.txt" "$top"/crates/*/{src,specs,proofs} -newer "$built" -print -quit 2> /dev/null) ]]; then
-    suffix=-unproved
-  fi
-  [[ -f $program && -x $program ]] || fail 5 "there is no program $program"
-}
+. "$top/tools/find-program.sh"
 
 # Puts the program that was found into the package.
 add_program() {
-  install -m 755 "$program" "$made/bin/$1"
+  install -m 755 "$found" "$made/bin/$1"
   strip --remove-section=.comment --remove-section=.note "$made/bin/$1"
 }
 
@@ -50,7 +39,7 @@ cp -r "$top/tools/schemas" "$made/schemas"
 install -m 755 "$top/tools/typescript/bin/fast-check-ts.js" "$made/bin/nagdrez.js"
 find_program fast_check_cli "${FAST_CHECK-}" && add_program fast-check
 find_program fast_check_source "${FAST_CHECK_SOURCE-}" && add_program fast-check-source
-version=$(< "$top/VERSION")$suffix
+version=$(< "$top/VERSION")${unproved:+-unproved}
 (cd "$made" && sha256sum bin/fast-check bin/fast-check-source > SHA256)
 install -m 644 "$top/LICENSE" "$top/CHANGELOG.md" "$here/README.md" "$made"
 node "$here/manifest.js" "$top/tools/typescript/package.json" "$version" > "$made/package.json"
