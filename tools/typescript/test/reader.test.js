@@ -123,6 +123,28 @@ test('both readers say the same in diff', { skip }, async () => {
   }
 });
 
+// Texts that both readers refuse, and beside them those that are next to them and are read.
+const REFUSED_TEXTS = [
+  'namespace N', 'export namespace N;', 'module M;', 'declare namespace N;', 'export declare namespace N.M;', 'export class C { static static a = 1; }',
+  'export class C { static static static: number; }', 'export type T = `x${', 'export const a: string = `x${', 'export const a: string = `x${1}${',
+];
+const READ_TEXTS = [
+  'export namespace N {}', 'export declare namespace N.M {}', 'declare module "m";', 'export class C { static static: number; }',
+  'export class C { static readonly static: number; }', 'export type T = `x${string}`;', 'export const a: string = `x${1}`;',
+];
+for (const [isRefused, texts] of /** @type {[boolean, string[]][]} */ ([[true, REFUSED_TEXTS], [false, READ_TEXTS]])) {
+  for (const text of texts) {
+    test(`both readers ${isRefused ? 'refuse' : 'read'} ${text}`, { skip }, () => withFolder(async (folder) => {
+      write(folder, { 'mod.ts': `${text}\n` });
+      const ran = childProcess.spawnSync(PROGRAM || '', [folder], { encoding: 'utf8' });
+      same(ran.status === 2, isRefused, `what the program says: ${ran.stdout}`);
+      const [own, other] = await bothSay(['check'], folder);
+      same(own, other, 'what is said');
+      same(other.startsWith('status 2\n'), isRefused, other);
+    }));
+  }
+}
+
 // Forms that an older compiler does not read, and a package that is nested deeper than the JSON that the other reader sends.
 const isReadByOne = (/** @type {string} */ name) => name === 'deep' || (READS_NONE && NEWER.includes(name) && !/const|dts/.test(name));
 const WORDS = [['check'], ['check', '--json'], ['check', '--list-externals', '--format', 'junit'], ['skeleton']];
