@@ -99,8 +99,9 @@ impl Bindings {
                 kept.add(dependency, asked)?;
             }
         }
-        let mut made = Vec::new(alloc);
-        for (dependency, space) in in_order(alloc, kept)? {
+        let ordered = in_order(alloc, kept)?;
+        let mut made = Vec::with_capacity(alloc, ordered.len())?;
+        for (dependency, space) in ordered {
             let dep = match dependency {
                 Dependency::Name(id) => SymbolDep::Id(id),
                 Dependency::Part(id, names) => SymbolDep::QualifiedId(id, names),
@@ -263,7 +264,7 @@ fn finished(
         ..
     } = draft;
     let functions = declarations.iter().filter(|it| it.body.is_some()).count();
-    let mut decls = Vec::new(alloc);
+    let mut decls = Vec::with_capacity(alloc, declarations.len())?;
     for declaration in declarations {
         let Declaration {
             range,
@@ -284,7 +285,7 @@ fn finished(
     for (name, symbol) in drafted {
         exports.put(String::from_str(alloc, name.as_str())?, number(symbol))?;
     }
-    let mut members = Vec::new(alloc);
+    let mut members = Vec::with_capacity(alloc, drafted_members.len())?;
     for member in drafted_members {
         members.push(number(member))?;
     }
@@ -326,7 +327,7 @@ pub fn tables_of(
     let classes = classes_of(alloc, drafts.as_slice(), &by_name)?;
     let enums = enum_dependencies(alloc, drafts.as_slice())?;
     let bindings = Bindings { by_name, classes };
-    let mut symbols = Vec::new(alloc);
+    let mut symbols = Vec::with_capacity(alloc, drafts.len())?;
     for (no, draft) in drafts.into_iter().enumerate() {
         let shared = match draft.of_enum {
             Some(found) => enums.get(&found.0),
@@ -334,7 +335,7 @@ pub fn tables_of(
         };
         symbols.push(finished(alloc, no, draft, &bindings, shared)?)?;
     }
-    let mut swc_ids = Vec::new(alloc);
+    let mut swc_ids = Vec::with_capacity(alloc, names.len())?;
     for id in names {
         if let Some(symbol) = bindings.find(&id) {
             swc_ids.push((id, number(symbol)))?;

@@ -2,7 +2,7 @@
 ghost use Rattle.fast_check_source_grammar.specs.Nests.{Nests};
 
 use crate::look_ahead::is_before_is;
-use crate::types::Types;
+use crate::types::{Types, set_plain};
 use fast_check_source_grammar::{Note, ParseError, Rule, Tokens, ident, sees_ident, word_ident};
 use fast_check_source_lexer::{Keyword, TokenKind};
 use fast_check_tree_forms_types::{
@@ -36,16 +36,18 @@ impl<F: Fn(Global, &mut Tokens<'_>, usize, Rule) -> Result<Tree, ParseError>> Ty
         self.result_from(tokens, start)
     }
 
-    /// A type or a predicate behind a mark that begins at a place.
+    /// A type or a predicate behind a mark that begins at a place. A conditional type may stand there, whatever is around it.
     pub fn result_from(&self, tokens: &mut Tokens<'_>, start: SourcePos) -> Result<Tree, ParseError>
         requires { Nests self.now.grammar.depth (F.pre self.now.grammar.parse) }
     {
+        let outer = set_plain(tokens, false);
         let type_ann = if sees_ident(tokens) && is_before_is(tokens) {
             let at = tokens.at.start();
             self.predicate(tokens, at, false)?
         } else {
             self.grammar.again(tokens, Rule::Type)?
         };
+        let _ = set_plain(tokens, outer);
         let span = tokens.at.from(start);
         Ok(TsTypeAnn { span, type_ann }.into_tree(self.grammar.alloc)?)
     }

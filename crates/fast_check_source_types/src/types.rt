@@ -27,7 +27,7 @@ fn operator(word: Keyword) -> Option<Form> {
 }
 
 // Says whether a conditional type may stand here, and answers whether one could.
-fn set_plain(tokens: &mut Tokens<'_>, plain: bool) -> bool {
+pub(crate) fn set_plain(tokens: &mut Tokens<'_>, plain: bool) -> bool {
     let within = tokens.at.within();
     let outer = within.plain_type;
     let _ = tokens.at.enter(Within {

@@ -147,7 +147,7 @@ for (const [isRefused, texts] of /** @type {[boolean, string[]][]} */ ([[true, R
 
 // Forms that an older compiler does not read, and a package that is nested deeper than the JSON that the other reader sends.
 const isReadByOne = (/** @type {string} */ name) => name === 'deep' || (READS_NONE && NEWER.includes(name) && !/const|dts/.test(name));
-const WORDS = [['check'], ['check', '--json'], ['check', '--list-externals', '--format', 'junit'], ['skeleton']];
+const WORDS = [['check', '--list-externals', '--json'], ['skeleton']];
 for (const name of STORED.filter((it) => !isReadByOne(it))) {
   test(`both readers say the same of ${name}`, { skip }, async () => {
     for (const words of WORDS) same(...await bothSay(words, path.join(PACKAGES, name)), words.join(' '));
