@@ -7,7 +7,7 @@ use fast_check_source_configs::comments::named_types;
 use fast_check_source_configs::config::Messages;
 use fast_check_source_configs::tsconfig::Projects;
 use fast_check_source_files::files::{Files, media_type, name_of};
-use fast_check_source_files::messages::Message;
+use fast_check_source_files::messages::{Message, Places};
 use fast_check_source_mended::{mended, short_tree};
 use fast_check_source_packages::resolve::{Package, is_relative, resolve};
 use fast_check_source_parser::{ParseError, parse_program};
@@ -236,13 +236,14 @@ impl Reading {
     fn missing(
         &mut self,
         alloc: Global,
-        place: Place<'_>,
+        path: &str,
+        places: &mut Places<'_>,
         source: SourceText<'_>,
     ) -> Result<(), AllocError> {
-        let offset = (source.start as usize).saturating_sub(1);
+        let place = places.place_of((source.start as usize).saturating_sub(1));
         let (code, why) = ("missing-module", "there is no such module");
-        let message = Message::at(alloc, place.path, place.text, offset, code, why)?;
-        if source.is_exported && self.entries.contains(place.path) {
+        let message = Message::at_place(alloc, path, place, code, why)?;
+        if source.is_exported && self.entries.contains(path) {
             self.messages.faults.push(message)?;
         } else {
             self.messages.warnings.push(message)?;
@@ -299,13 +300,14 @@ impl Reading {
         } = sources_of(alloc, program.read())?;
         let mut resolved: BTreeMap<String, Url> = BTreeMap::new(alloc);
         let mut leads = Vec::new(alloc);
+        let mut places = Places::new(place.text);
         for source in sources.iter() {
             let named = named_types(place.text, (source.around as usize).saturating_sub(1));
             let target = self.lead(files, packages, place.path, source.text, named)?;
             leads.push(Lead::of(alloc, *source, target.as_ref())?)?;
             match target {
                 Some(target) => self.note(alloc, place, source.text, target, &mut resolved)?,
-                None => self.missing(alloc, place, *source)?,
+                None => self.missing(alloc, place.path, &mut places, *source)?,
             }
         }
         self.push_read(alloc, place.path, leads, names_return)?;

@@ -25,10 +25,11 @@ fn sees_single(at: Cursor<'_>) -> bool {
 
 // Whether an `async` that comes next stands before an arrow function, if one begins behind it.
 fn is_mark(at: Cursor<'_>) -> bool {
+    if !at.is_word(Keyword::Async) {
+        return false;
+    }
     let next = at.second();
-    at.is_word(Keyword::Async)
-        && !next.newline()
-        && (next.is(TokenKind::LParen) || next.is(TokenKind::Less) || sees_single(next))
+    !next.newline() && (next.is(TokenKind::LParen) || next.is(TokenKind::Less) || sees_single(next))
 }
 
 fn single(alloc: Global, tokens: &mut Tokens<'_>) -> Result<Head, ParseError> {

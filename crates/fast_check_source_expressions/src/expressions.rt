@@ -110,7 +110,7 @@ impl<F: Fn(Global, &mut Tokens<'_>, usize, Rule) -> Result<Tree, ParseError>> Ex
     ) -> Result<Tree, ParseError>
         requires { Nests self.now.values.types.grammar.depth (F.pre self.now.values.types.grammar.parse) }
     {
-        let op = tokens.at.written(self.values.types.grammar.alloc)?;
+        let op = tokens.operator(self.values.types.grammar.alloc)?;
         tokens.at.advance();
         let made = AssignExpr {
             op,

@@ -72,7 +72,7 @@ fn behind_paren(at: Cursor<'_>) -> Arrow {
 }
 
 // Behind a `<` in a file that may hold JSX.
-fn behind_less(at: Cursor<'_>) -> Arrow {
+fn behind_less_of_jsx(at: Cursor<'_>) -> Arrow {
     let mut ahead = at;
     let _ = ahead.eat_word(Keyword::Const);
     ahead.advance();
@@ -89,15 +89,23 @@ fn behind_less(at: Cursor<'_>) -> Arrow {
     if holds { Arrow::Yes } else { Arrow::No }
 }
 
+fn behind_less(at: Cursor<'_>) -> Arrow {
+    if !at.is(TokenKind::Name) {
+        Arrow::No
+    } else if at.within().jsx {
+        behind_less_of_jsx(at)
+    } else if !is_reserved(at.word()) || at.is_word(Keyword::Const) {
+        Arrow::Perhaps
+    } else {
+        Arrow::No
+    }
+}
+
 /// Whether the `(` or `<` that comes next begins an arrow function.
 pub fn arrow_at(at: Cursor<'_>) -> Arrow {
-    let next = at.second();
     match at.kind() {
-        TokenKind::LParen => behind_paren(next),
-        TokenKind::Less if !next.is(TokenKind::Name) => Arrow::No,
-        TokenKind::Less if at.within().jsx => behind_less(next),
-        TokenKind::Less if !is_reserved(next.word()) || next.is_word(Keyword::Const) =>
-            Arrow::Perhaps,
+        TokenKind::LParen => behind_paren(at.second()),
+        TokenKind::Less => behind_less(at.second()),
         _ => Arrow::No,
     }
 }

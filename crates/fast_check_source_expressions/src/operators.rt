@@ -73,7 +73,7 @@ impl<F: Fn(Global, &mut Tokens<'_>, usize, Rule) -> Result<Tree, ParseError>> Ex
         if tokens.at.is_word(Keyword::As) || tokens.at.is_word(Keyword::Satisfies) {
             return self.asserted(tokens, start, left);
         }
-        let op = tokens.at.written(self.values.types.grammar.alloc)?;
+        let op = tokens.operator(self.values.types.grammar.alloc)?;
         tokens.at.advance();
         let least = if level == 12 {
             12
@@ -153,7 +153,7 @@ impl<F: Fn(Global, &mut Tokens<'_>, usize, Rule) -> Result<Tree, ParseError>> Ex
         requires { Nests self.now.values.types.grammar.depth (F.pre self.now.values.types.grammar.parse) }
     {
         let start = tokens.at.start();
-        let op = tokens.at.written(self.values.types.grammar.alloc)?;
+        let op = tokens.operator(self.values.types.grammar.alloc)?;
         tokens.at.advance();
         let made = UnaryExpr {
             op,
@@ -211,7 +211,7 @@ impl<F: Fn(Global, &mut Tokens<'_>, usize, Rule) -> Result<Tree, ParseError>> Ex
         let start = tokens.at.start();
         let alloc = self.values.types.grammar.alloc;
         if is_update(tokens.at) {
-            let op = tokens.at.written(alloc)?;
+            let op = tokens.operator(alloc)?;
             tokens.at.advance();
             let made = UpdateExpr {
                 op,
@@ -225,7 +225,7 @@ impl<F: Fn(Global, &mut Tokens<'_>, usize, Rule) -> Result<Tree, ParseError>> Ex
         if tokens.at.newline() || !is_update(tokens.at) {
             return Ok(arg);
         }
-        let op = tokens.at.written(alloc)?;
+        let op = tokens.operator(alloc)?;
         tokens.at.advance();
         let made = UpdateExpr {
             span: tokens.at.from(start),

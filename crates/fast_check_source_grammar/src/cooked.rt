@@ -162,6 +162,11 @@ fn passed(z: &[u8], at: usize) -> usize {
     if ends_line { 3 } else { 0 }
 }
 
+/// Whether each byte of a text means itself.
+pub fn means_itself(text: &str) -> bool {
+    next_mark(text.as_bytes(), 0) >= text.len()
+}
+
 /// What a text between quotes or marks means, or nothing where an escape in it is wrong or means half a character. A line's end is read as a line feed.
 pub fn cooked(alloc: Global, text: &str) -> Result<Option<Atom>, AllocError> {
     let z = text.as_bytes();

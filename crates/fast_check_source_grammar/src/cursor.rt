@@ -1,7 +1,6 @@
 //! A cursor over the tokens of a text.
 ghost use Rattle.std.specs.Prelude.{◌≤◌, length};
 
-use crate::cooked::cooked;
 use crate::error::ParseError;
 use fast_check_source_lexer::{Keyword, Source, Token, TokenKind, keyword_of};
 use fast_check_tree_syntax::{Atom, SourcePos, SourceRange};
@@ -246,14 +245,6 @@ impl<'a> Cursor<'a> {
     /// The text of the next token, as it is written.
     pub fn written(&self, alloc: Global) -> Result<Atom, AllocError> {
         Atom::from_str(alloc, self.inside(0, 0))
-    }
-
-    /// The name that the next token is, with its escapes read, without so many bytes at its start.
-    pub fn name(&self, alloc: Global, first: usize) -> Result<Atom, ParseError> {
-        match cooked(alloc, self.inside(first, 0))? {
-            Some(name) => Ok(name),
-            None => Err(self.refuse()),
-        }
     }
 
     /// Reads the next token, a `/`, as a regular expression.

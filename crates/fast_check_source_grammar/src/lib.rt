@@ -10,6 +10,7 @@ mod error;
 mod grammar;
 mod literals;
 mod names;
+mod shared;
 mod tokens;
 
 pub use cursor::{Cursor, Within};

@@ -70,7 +70,7 @@ pub fn word_ident(alloc: Global, tokens: &mut Tokens<'_>) -> Result<Tree, ParseE
         return Err(tokens.at.refuse());
     }
     let span = tokens.at.here();
-    let sym = tokens.at.name(alloc, 0)?;
+    let sym = tokens.name(alloc, 0)?;
     tokens.at.advance();
     let made = Ident {
         span,
@@ -87,7 +87,7 @@ pub fn ident_name(alloc: Global, tokens: &mut Tokens<'_>) -> Result<Tree, ParseE
         return Err(tokens.at.refuse());
     }
     let span = tokens.at.here();
-    let sym = tokens.at.name(alloc, 0)?;
+    let sym = tokens.name(alloc, 0)?;
     tokens.at.advance();
     Ok(IdentName { span, sym }.into_tree(alloc)?)
 }
@@ -98,7 +98,7 @@ pub fn private_name(alloc: Global, tokens: &mut Tokens<'_>) -> Result<Tree, Pars
         return Err(tokens.at.refuse());
     }
     let span = tokens.at.here();
-    let name = tokens.at.name(alloc, 1)?;
+    let name = tokens.name(alloc, 1)?;
     tokens.at.advance();
     Ok(PrivateName { span, name }.into_tree(alloc)?)
 }

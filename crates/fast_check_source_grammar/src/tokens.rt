@@ -1,6 +1,10 @@
 //! The cursor that the rules move, with what is remembered of places and heights.
+use crate::cooked::{cooked, means_itself};
 use crate::cursor::Cursor;
+use crate::error::ParseError;
+use crate::shared::Shared;
 use fast_check_source_lexer::Keyword;
+use fast_check_tree_syntax::Atom;
 use std::alloc::{AllocError, Global};
 use std::collections::BTreeSet;
 
@@ -31,6 +35,8 @@ pub struct Tokens<'a> {
     no_constraints: BTreeSet<usize>,
     targets: BTreeSet<usize>,
     walked: BTreeSet<usize>,
+    // Texts of names and operators.
+    shared: Shared,
 }
 
 impl<'a> Tokens<'a> {
@@ -44,6 +50,7 @@ impl<'a> Tokens<'a> {
             no_constraints: BTreeSet::new(alloc),
             targets: BTreeSet::new(alloc),
             walked: BTreeSet::new(alloc),
+            shared: Shared::new(alloc),
         })
     }
 
@@ -78,6 +85,23 @@ impl<'a> Tokens<'a> {
 
     pub fn is_module(&self) -> bool {
         self.module
+    }
+
+    /// The name that the next token is, with its escapes read, without so many bytes at its start.
+    pub fn name(&mut self, alloc: Global, first: usize) -> Result<Atom, ParseError> {
+        let text = self.at.inside(first, 0);
+        if means_itself(text) {
+            return Ok(self.shared.atom(alloc, text)?);
+        }
+        match cooked(alloc, text)? {
+            Some(name) => Ok(name),
+            None => Err(self.at.refuse()),
+        }
+    }
+
+    /// The operator that the next token is.
+    pub fn operator(&mut self, alloc: Global) -> Result<Atom, AllocError> {
+        self.shared.atom(alloc, self.at.inside(0, 0))
     }
 
     /// Whether the next token is an `in` that is no operator.

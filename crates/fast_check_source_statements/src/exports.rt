@@ -1,7 +1,7 @@
 //! Exports.
 ghost use Rattle.fast_check_source_grammar.specs.Nests.{Nests};
 
-use crate::statements::{Opening, Statements, sees_declaration};
+use crate::statements::{Opening, Statements, is_in_line, sees_declaration};
 use fast_check_source_grammar::{Cursor, ParseError, Rule, Tokens, ident};
 use fast_check_source_imports::{eat_type, export_names, export_star, import_equals};
 use fast_check_source_lexer::{Keyword, TokenKind};
@@ -11,16 +11,22 @@ use fast_check_tree_forms_programs::{
 use fast_check_tree_syntax::{SourcePos, Tree};
 use std::alloc::Global;
 
-fn is_function(at: Cursor<'_>) -> bool {
+// Whether `type` stands here before what is exported of a list or of a module.
+fn sees_type_list(at: Cursor<'_>) -> bool {
+    if !at.is_word(Keyword::Type) {
+        return false;
+    }
     let next = at.second();
+    next.is(TokenKind::LBrace) || next.is(TokenKind::Star)
+}
+
+fn is_function(at: Cursor<'_>) -> bool {
     at.is_word(Keyword::Function)
-        || (at.is_word(Keyword::Async) && next.is_word(Keyword::Function) && !next.newline())
+        || (at.is_word(Keyword::Async) && is_in_line(at, Keyword::Function))
 }
 
 fn is_class(at: Cursor<'_>) -> bool {
-    let next = at.second();
-    at.is_word(Keyword::Class)
-        || (at.is_word(Keyword::Abstract) && next.is_word(Keyword::Class) && !next.newline())
+    at.is_word(Keyword::Class) || (at.is_word(Keyword::Abstract) && is_in_line(at, Keyword::Class))
 }
 
 impl<F: Fn(Global, &mut Tokens<'_>, usize, Rule) -> Result<Tree, ParseError>> Statements<F> {
@@ -31,9 +37,7 @@ impl<F: Fn(Global, &mut Tokens<'_>, usize, Rule) -> Result<Tree, ParseError>> St
         let alloc = self.expressions.values.types.grammar.alloc;
         let start = tokens.at.start();
         tokens.at.advance();
-        let next = tokens.at.second();
-        let type_only = tokens.at.is_word(Keyword::Type)
-            && (next.is(TokenKind::LBrace) || next.is(TokenKind::Star));
+        let type_only = sees_type_list(tokens.at);
         if type_only {
             tokens.at.advance();
         }

@@ -29,7 +29,14 @@ pub fn names_next(at: Cursor<'_>) -> bool {
     next.is(TokenKind::Name) && !next.newline() && !is_reserved(next.word())
 }
 
-fn is_in_line(at: Cursor<'_>, word: Keyword) -> bool {
+// Whether a string in the same line stands behind a word.
+fn quotes_next(at: Cursor<'_>) -> bool {
+    let next = at.second();
+    next.is(TokenKind::String) && !next.newline()
+}
+
+/// Whether a word stands behind the next one in its line.
+pub fn is_in_line(at: Cursor<'_>, word: Keyword) -> bool {
     let next = at.second();
     next.is_word(word) && !next.newline()
 }
@@ -56,7 +63,6 @@ pub fn is_await_using(at: Cursor<'_>) -> bool {
 
 /// Whether a declaration comes next.
 pub fn sees_declaration(at: Cursor<'_>) -> bool {
-    let next = at.second();
     match at.word() {
         Keyword::Function | Keyword::Class | Keyword::Enum | Keyword::Var | Keyword::Const => true,
         Keyword::Let => binds_next(at),
@@ -65,16 +71,19 @@ pub fn sees_declaration(at: Cursor<'_>) -> bool {
         Keyword::Async => is_in_line(at, Keyword::Function),
         Keyword::Abstract => is_in_line(at, Keyword::Class),
         Keyword::Interface | Keyword::Type | Keyword::Namespace => names_next(at),
-        Keyword::Module => names_next(at) || (next.is(TokenKind::String) && !next.newline()),
-        Keyword::Global => next.is(TokenKind::LBrace),
+        Keyword::Module => names_next(at) || quotes_next(at),
+        Keyword::Global => at.second().is(TokenKind::LBrace),
         _ => false,
     }
 }
 
 // Whether `declare` comes next, as what stands before a declaration.
 fn declares(at: Cursor<'_>) -> bool {
+    if !at.is_word(Keyword::Declare) {
+        return false;
+    }
     let next = at.second();
-    at.is_word(Keyword::Declare) && !next.newline() && sees_declaration(next)
+    !next.newline() && sees_declaration(next)
 }
 
 // Whether a `import` that comes next is a value, as in `import("a")`.

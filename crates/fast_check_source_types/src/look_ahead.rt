@@ -96,6 +96,11 @@ pub fn can_follow_modifier(at: Cursor<'_>) -> bool {
     )
 }
 
+/// Whether `get` or `set` stands here, and a key behind it.
+pub fn sees_accessor(at: Cursor<'_>) -> bool {
+    (at.is_word(Keyword::Get) || at.is_word(Keyword::Set)) && can_follow_modifier(at.second())
+}
+
 /// Whether the next word is followed by `is` in its line.
 pub fn is_before_is(tokens: &Tokens<'_>) -> bool {
     let next = tokens.at.second();

@@ -1,7 +1,7 @@
 //! Members of interfaces and of object types.
 ghost use Rattle.fast_check_source_grammar.specs.Nests.{Nests};
 
-use crate::look_ahead::{can_follow_modifier, sees_index};
+use crate::look_ahead::{can_follow_modifier, sees_accessor, sees_index};
 use crate::types::Types;
 use fast_check_source_grammar::{ParseError, Rule, Tokens, literal_key};
 use fast_check_source_lexer::{Keyword, TokenKind};
@@ -42,8 +42,11 @@ fn is_modifier(word: Keyword) -> bool {
 fn modifiers(tokens: &mut Tokens<'_>) -> bool {
     let mut readonly = false;
     for _turn in 0..tokens.at.left() {
+        if !is_modifier(tokens.at.word()) {
+            break;
+        }
         let next = tokens.at.second();
-        if !is_modifier(tokens.at.word()) || next.newline() || !can_follow_modifier(next) {
+        if next.newline() || !can_follow_modifier(next) {
             break;
         }
         readonly = readonly || tokens.at.is_word(Keyword::Readonly);
@@ -96,12 +99,14 @@ impl<F: Fn(Global, &mut Tokens<'_>, usize, Rule) -> Result<Tree, ParseError>> Ty
         if sees_index(tokens) {
             return self.index(tokens, start, readonly, false);
         }
-        let may_access = can_follow_modifier(tokens.at.second());
-        if may_access && tokens.at.eat_word(Keyword::Get) {
-            return self.getter(tokens, start);
-        }
-        if may_access && tokens.at.eat_word(Keyword::Set) {
-            return self.setter(tokens, start);
+        if sees_accessor(tokens.at) {
+            let is_getter = tokens.at.is_word(Keyword::Get);
+            tokens.at.advance();
+            return if is_getter {
+                self.getter(tokens, start)
+            } else {
+                self.setter(tokens, start)
+            };
         }
         let key = self.key(tokens)?;
         let optional = tokens.at.eat(TokenKind::Question);
@@ -153,7 +158,7 @@ impl<F: Fn(Global, &mut Tokens<'_>, usize, Rule) -> Result<Tree, ParseError>> Ty
         requires { Nests self.now.grammar.depth (F.pre self.now.grammar.parse) }
     {
         let start = tokens.at.start();
-        let sym = tokens.at.name(self.grammar.alloc, 0)?;
+        let sym = tokens.name(self.grammar.alloc, 0)?;
         tokens.at.expect(TokenKind::Name)?;
         let type_ann = self.annotation(tokens)?;
         let id = Ident {

@@ -19,7 +19,7 @@ fn optional_ident(alloc: Global, tokens: &mut Tokens<'_>) -> Result<Tree, ParseE
         return Err(tokens.at.refuse());
     }
     let span = tokens.at.here();
-    let sym = tokens.at.name(alloc, 0)?;
+    let sym = tokens.name(alloc, 0)?;
     tokens.at.advance();
     let made = Ident {
         span,

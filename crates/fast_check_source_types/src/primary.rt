@@ -49,7 +49,7 @@ fn label(
     dots: Option<SourceRange>,
 ) -> Result<Tree, ParseError> {
     let at = tokens.at.start();
-    let sym = tokens.at.name(alloc, 0)?;
+    let sym = tokens.name(alloc, 0)?;
     tokens.at.expect(TokenKind::Name)?;
     let optional = tokens.at.eat(TokenKind::Question);
     let id = Ident {

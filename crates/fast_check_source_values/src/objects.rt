@@ -23,15 +23,19 @@ fn is_short(tokens: &Tokens<'_>) -> bool {
 
 // Whether a word that comes next stands before a key in its line.
 fn is_mark(at: Cursor<'_>, word: Keyword) -> bool {
+    if !at.is_word(word) {
+        return false;
+    }
     let next = at.second();
-    at.is_word(word) && !next.newline() && leads(next)
+    !next.newline() && leads(next)
 }
 
 fn is_accessor(at: Cursor<'_>) -> bool {
+    if !at.is_word(Keyword::Get) && !at.is_word(Keyword::Set) {
+        return false;
+    }
     let next = at.second();
-    (at.is_word(Keyword::Get) || at.is_word(Keyword::Set))
-        && leads(next)
-        && !next.is(TokenKind::Star)
+    leads(next) && !next.is(TokenKind::Star)
 }
 
 impl<F: Fn(Global, &mut Tokens<'_>, usize, Rule) -> Result<Tree, ParseError>> Values<F> {
