@@ -1,15 +1,15 @@
 #!/usr/bin/python3
 """Runs fast check on many packages, on one machine or many, over Dask (Debian: python3-distributed, python3-dask).
 
-Each package is one task. A package is a folder of TypeScript, which is checked as `fast-check-ts check` does, in a process of the worker that goes on from
-folder to folder, or a file with the input of `fast-check build`. The results are lines of JSON, each written as it comes:
+A package is a folder of TypeScript, which is checked as `fast-check-ts check` does, in a process of the worker that goes on from folder to folder, or a file with
+the input of `fast-check build`. A task is one package, or up to 32 where there are many. The results are lines of JSON, each written as its task ends:
 
     {"package": "hello", "status": 0, "messages": [], "seconds": 0.02}
     {"package": "canvas", "status": 1, "messages": [{"code": "missing-explicit-type", ..}], "seconds": 0.03}
     {"package": "nowhere", "status": 2, "messages": [{"code": "no-package", ..}], "seconds": 0}
     {"package": "broken", "error": "killed by SIGKILL, tried 3 times"}
 
-`status` is that of the command (0 nothing to tell but warnings, 1 messages, 2 refused or not there, above 2 failed: 5 no program, 70 a fault of the tool). A task
+`status` is that of the command (0 nothing to tell but warnings, 1 messages, 2 refused or not there, above 2 failed: 5 no program, 70 a fault of the tool). A package
 whose process is killed or takes more memory than it may is tried again, as is one whose worker is lost; one that does not end in time is not. In the end it
 is reported by its name, in the results and on standard error.
 
@@ -41,10 +41,12 @@ import cgroups
 TOP = Path(__file__).resolve().parent.parent.parent
 # How often a task's memory is looked at, in seconds.
 LOOK = 0.05
+# Of how many packages a task is at most, and how many tasks there are at least for each worker.
+MOST, SHARE = 32, 16
 
 
 class Lost(Exception):
-    """A task that was not done: its process was killed, or took too much memory or time. `is_final` says that another try takes as long."""
+    """A package that was not done: its process was killed, or took too much memory or time. `is_final` says that another try takes as long."""
 
     def __init__(self, why, is_final=False):
         super().__init__(why, is_final)
@@ -159,7 +161,7 @@ class Server:
         return cls.one
 
     def is_used_up(self, limits):
-        return self.child.poll() is not None or memory_of(psutil.Process(self.child.pid)) > limits["memory"] / 2
+        return self.child.poll() is not None or psutil.Process(self.child.pid).memory_info().rss > limits["memory"] / 2
 
     def close(self):
         self.child.kill()
@@ -199,6 +201,17 @@ def run_package(package, program, limits, want=None):
     said = answer.pop("said")
     made = {**answer, "seconds": round(time.monotonic() - begun, 3)}
     return {**made, "said": said.splitlines()[-1]} if said and made["status"] > 1 else made
+
+
+def run_packages(packages, program, limits, want=None):
+    """What packages are answered one after another, each an answer or why it is lost."""
+    made = []
+    for package in packages:
+        try:
+            made.append(run_package(package, program, limits, want))
+        except Lost as lost:
+            made.append(lost)
+    return made
 
 
 # ---- all packages
@@ -252,49 +265,59 @@ class Registry:
         self.client, self.packages, self.program, self.limits, self.tries, self.texts = client, packages, program, limits, tries, texts
         self.left = [tries - 1] * len(packages)
 
-    def submit(self, place):
-        """A task, under a key of its own: a package that stands twice is two tasks."""
-        key = f"package-{place}-{self.left[place]}-{os.getpid()}-{id(self)}"
+    def submit(self, places):
+        """A task, under a key of its own: a package that stands twice is asked for twice."""
+        key = f"packages-{places[0]}-{self.left[places[0]]}-{os.getpid()}-{id(self)}"
         want = self.texts.want if self.texts else None
-        return self.client.submit(run_package, self.packages[place], self.program, self.limits, want, key=key, pure=False)
+        return self.client.submit(run_packages, [self.packages[it] for it in places], self.program, self.limits, want, key=key, pure=False)
 
     def run(self, out, on_done=lambda done: None):
-        """Writes each result as it comes, and answers how many there are of each kind, and what was lost."""
+        """Writes each result as its task ends, and answers how many there are of each kind, and what was lost."""
         counts, lost, bar, done = dict.fromkeys(KINDS, 0), [], Bar(len(self.packages)), 0
-        at = {self.submit(place): place for place in range(len(self.packages))}
+        workers = max(len(self.client.scheduler_info()["workers"]), 1)
+        size = min(max(len(self.packages) // (workers * SHARE), 1), MOST)
+        tasks = [range(len(self.packages))[start:start + size] for start in range(0, len(self.packages), size)]
+        at = {self.submit(places): places for places in tasks}
         waiting = as_completed(list(at))
         for future in waiting:
-            place = at.pop(future)
-            result = self.result(future, place)
-            if result is None:
-                self.left[place] -= 1
-                again = self.submit(place)
-                at[again] = place
-                waiting.add(again)
-                continue
-            done += 1
-            modules = result.pop("modules", [])
-            if self.texts:
-                self.texts.write(self.packages[place], modules)
-            counts[kind_of(result)] += 1
-            if "error" in result:
-                lost.append((self.packages[place], result["error"]))
-            out.write(json.dumps({"package": self.packages[place], **result}) + "\n")
+            places = at.pop(future)
+            for place, answer in zip(places, self.answers(future, places)):
+                result = self.result(answer, place)
+                if result is None:
+                    self.left[place] -= 1
+                    again = self.submit([place])
+                    at[again] = [place]
+                    waiting.add(again)
+                    continue
+                done += 1
+                modules = result.pop("modules", [])
+                if self.texts:
+                    self.texts.write(self.packages[place], modules)
+                counts[kind_of(result)] += 1
+                if "error" in result:
+                    lost.append((self.packages[place], result["error"]))
+                out.write(json.dumps({"package": self.packages[place], **result}) + "\n")
+                on_done(done)
             out.flush()
             bar.show(done, len(lost))
-            on_done(done)
         bar.show(done, len(lost), last=True)
         return counts, lost
 
-    def result(self, future, place):
-        """What a task answers; none where it is to be tried again."""
+    def answers(self, future, places):
+        """What a task answers of each of its packages: where it was lost itself, why."""
         if future.status == "finished":
             return future.result()
         error = future.exception() if future.status == "error" else None
-        is_final = isinstance(error, Lost) and error.is_final
+        return [error] * len(places)
+
+    def result(self, answer, place):
+        """The result of a package; none where it is to be tried again."""
+        if isinstance(answer, dict):
+            return answer
+        is_final = isinstance(answer, Lost) and answer.is_final
         if self.left[place] > 0 and not is_final:
             return None
-        why = "its worker was lost" if isinstance(error, KilledWorker) else error.why if isinstance(error, Lost) else repr(error)
+        why = "its worker was lost" if isinstance(answer, KilledWorker) else answer.why if isinstance(answer, Lost) else repr(answer)
         tried = self.tries - self.left[place]
         return {"error": f"{why}, tried {tried} time{'s' if tried != 1 else ''}"}
 
@@ -330,7 +353,7 @@ def size(text):
 
 
 def words():
-    made = argparse.ArgumentParser(description="Runs fast check on many packages over Dask.", epilog="Results are lines of JSON, each written as it comes.")
+    made = argparse.ArgumentParser(description="Runs fast check on many packages over Dask.", epilog="Results are lines of JSON, each written as its task ends.")
     made.add_argument("packages", nargs="*", metavar="PACKAGE", help="a folder of TypeScript, or a file with the input of `fast-check build`")
     made.add_argument("--list", metavar="FILE", help="a file that names a package a line")
     made.add_argument("--scheduler", metavar="ADDRESS", help="a Dask cluster that is there, as tcp://host:8786; its workers need this folder and the packages under the same paths")

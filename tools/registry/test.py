@@ -16,6 +16,8 @@ sys.path.insert(0, str(HERE))
 # So that the workers find the module too.
 os.environ["PYTHONPATH"] = str(HERE)
 os.environ["PYTHONDONTWRITEBYTECODE"] = "1"
+# The program of these tests stands in the place of both.
+os.environ.pop("FAST_CHECK_SOURCE", None)
 
 import cgroups
 import registry
@@ -73,6 +75,15 @@ def run(client, room, packages, memory=200_000_000, seconds=20, tries=3, on_done
     program = {"top": str(registry.TOP), "path": str(room.path)}
     _, lost = registry.Registry(client, packages, program, {"memory": memory, "seconds": seconds, "cgroup": cgroup}, tries).run(out, on_done)
     return sorted([json.loads(line) for line in out.getvalue().splitlines()], key=lambda it: packages.index(it["package"])), lost
+
+
+def many_packages_are_few_tasks(client, room):
+    packages = room.packages(*["plain", "once", "killed", "faults"] * 40)
+    results, lost = run(client, room, packages, tries=2)
+    assert sorted(it["package"] for it in results) == sorted(packages)
+    assert [it.get("status") for it in results] == [0, 0, None, 1] * 40
+    assert sorted(lost) == sorted((it, "killed by SIGKILL, tried 2 times") for it in packages[2::4])
+    assert [room.runs(it) for it in packages] == [1, 2, 2, 1] * 40, "a package that is done is not tried again with one that is lost"
 
 
 def results_are_written_as_they_come(client, room):
@@ -252,7 +263,7 @@ def a_cluster_that_is_there_is_used(client, room):
     assert sorted(json.loads(line)["status"] for line in ran.stdout.splitlines()) == [0, 1]
 
 
-TESTS = [results_are_written_as_they_come, each_package_has_a_result, folders_are_checked_in_one_process, texts_are_written, folders_are_quick, a_cgroup_is_made_where_it_may_be,
+TESTS = [results_are_written_as_they_come, many_packages_are_few_tasks, each_package_has_a_result, folders_are_checked_in_one_process, texts_are_written, folders_are_quick, a_cgroup_is_made_where_it_may_be,
          where_no_cgroup_may_be_made_memory_is_looked_at, a_run_that_was_stopped_goes_on, a_killed_task_is_tried_again, a_task_that_is_always_killed_is_told_by_name, a_task_that_takes_too_much_memory_is_told_by_name,
          a_task_without_end_is_not_tried_again, nothing_is_lost_with_a_worker, a_package_that_stands_twice_is_answered_twice, the_command_says_what_is_lost,
          a_cluster_that_is_there_is_used]

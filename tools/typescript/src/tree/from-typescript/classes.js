@@ -201,7 +201,7 @@ function method(/** @type {Converter} */ c, /** @type {ts.MethodDeclaration | ts
  */
 function propertyValue(/** @type {Converter} */ c, /** @type {ts.PropertyDeclaration} */ node) {
   if (!node.initializer) return null;
-  if (c.short && node.type) return { Lit: { Null: { span: c.span(node.initializer) } } };
+  if (node.type && c.cutsValue(node)) return { Lit: { Null: { span: c.span(node.initializer) } } };
   return expression(c, node.initializer);
 }
 

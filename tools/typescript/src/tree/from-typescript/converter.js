@@ -17,6 +17,9 @@ const { SyntaxKind: K } = ts;
  */
 const NEWER = /** @type {Record<string, ts.SyntaxKind | undefined>} */ (/** @type {unknown} */ (K));
 
+// What the parser marks as ambient, a flag that the compiler keeps for itself.
+const { Ambient: AMBIENT = 0 } = /** @type {{ Ambient?: number }} */ (/** @type {unknown} */ (ts.NodeFlags));
+
 /**
  * A form without the members that have their defaults, which the program fills in.
  *
@@ -64,6 +67,8 @@ class Converter {
     this.text = sourceFile.text;
     this.offsets = new Offsets(this.text);
     this.short = Boolean(options.short);
+    // Whether a signature is converted, which has no body.
+    this.isSignature = false;
     this.namesReturns = options.rules !== 'deno';
     /** @type {import('../types').TreeError[]} */
     this.errors = [];
@@ -91,6 +96,27 @@ class Converter {
     const scope = new Scope(this.lastScope, parent);
     this.scopes.set(this.lastScope, scope);
     return scope;
+  }
+
+  /** Whether the value of a node with an explicit type is cut away. Skeletons keep what is ambient, and signatures, as they are. */
+  cutsValue(/** @type {ts.Node} */ { flags }) {
+    return this.short && !this.isSignature && (flags & AMBIENT) === 0;
+  }
+
+  /**
+   * Calls back where a signature is converted.
+   *
+   * @template R
+   * @param {() => R} call
+   */
+  ofSignature(call) {
+    const outer = this.isSignature;
+    this.isSignature = true;
+    try {
+      return call();
+    } finally {
+      this.isSignature = outer;
+    }
   }
 
   /** The number of a scope for the form that it is of, which is asked for by no rule. */
@@ -179,7 +205,7 @@ class Converter {
       if (asserted && has(asserted.expr, true)) return true;
       return partsOf(asserted ? { ...asserted, expr: null } : it).some((each) => has(each, isAsserted));
     };
-    return this.short && has(value, false) ? this.hidden(node) : value;
+    return this.short && !this.isSignature && has(value, false) ? this.hidden(node) : value;
   }
 
   /** An error at a node: the tree has no such form, or the text is none of TypeScript's. */
@@ -216,4 +242,4 @@ class Converter {
   }
 }
 
-module.exports = { Converter, NEWER, converterOf, form, oneOf, TOP, UNRESOLVED };
+module.exports = { Converter, AMBIENT, NEWER, converterOf, form, oneOf, TOP, UNRESOLVED };

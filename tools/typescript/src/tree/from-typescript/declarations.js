@@ -3,7 +3,7 @@
 
 const { hasModifier, modifiersOf } = require('../../compiler/modifiers.js');
 const { ts } = require('../../compiler/typescript.js');
-const { NEWER, converterOf, form } = require('./converter.js');
+const { AMBIENT, NEWER, converterOf, form } = require('./converter.js');
 const { Scope, bindBody, ANY, TYPE, VALUE, NAMESPACE } = require('./scopes.js');
 const names = require('./names.js');
 const types = require('./types.js');
@@ -15,8 +15,6 @@ const { functionIn, classOf, implemented, heritage } = require('./classes.js');
 
 const { SyntaxKind: K } = ts;
 
-// What the parser marks as ambient, a flag that the compiler keeps for itself.
-const { Ambient: AMBIENT = 0 } = /** @type {{ Ambient?: number }} */ (/** @type {unknown} */ (ts.NodeFlags));
 /** @type {Set<ts.SyntaxKind>} */
 const BEFORE = new Set([K.ExportKeyword, K.DefaultKeyword, K.Decorator]);
 

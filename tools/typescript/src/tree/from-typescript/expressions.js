@@ -236,7 +236,7 @@ function arrow(/** @type {Converter} */ c, /** @type {ts.ArrowFunction} */ node)
  * @returns {forms.Expr}
  */
 function arrowValue(/** @type {Converter} */ c, /** @type {ts.ArrowFunction} */ node, /** @type {ts.Expression} */ value) {
-  return c.short && node.type ? { Lit: { Null: { span: c.span(value) } } } : c.told(expression(c, value), value);
+  return node.type && c.cutsValue(node) ? { Lit: { Null: { span: c.span(value) } } } : c.told(expression(c, value), value);
 }
 
 /** @returns {forms.Expr} */

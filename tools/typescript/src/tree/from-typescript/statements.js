@@ -164,9 +164,9 @@ function block(/** @type {Converter} */ c, /** @type {ts.Block} */ node) {
 }
 
 /** @returns {forms.VarDeclarator} */
-function declarator(/** @type {Converter} */ c, /** @type {ts.VariableDeclaration} */ node, short = c.short) {
+function declarator(/** @type {Converter} */ c, /** @type {ts.VariableDeclaration} */ node, cuts = c.cutsValue(node)) {
   const name = patterns.pattern(c, node.name, false, node.type);
-  const hides = short && node.type;
+  const hides = cuts && node.type;
   const init = node.initializer && (hides ? noValue(c, node.initializer) : expression(c, node.initializer));
   return form({ span: c.span(node), name, init, definite: Boolean(node.exclamationToken) });
 }

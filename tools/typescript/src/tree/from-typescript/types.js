@@ -112,7 +112,7 @@ function signature(c, node, make) {
   return c.within(() => {
     bindTypeParams(c, node);
     for (const it of node.parameters) patterns.bindParameter(c.scope, it);
-    return make();
+    return c.ofSignature(make);
   });
 }
 
