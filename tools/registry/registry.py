@@ -43,6 +43,8 @@ TOP = Path(__file__).resolve().parent.parent.parent
 LOOK = 0.05
 # Of how many packages a task is at most, and how many tasks there are at least for each worker.
 MOST, SHARE = 32, 16
+# How many bytes a pipe takes that nobody reads.
+PIPE = 32768
 
 
 class Lost(Exception):
@@ -168,20 +170,25 @@ class Server:
         self.child.wait()
         Server.one = None
 
-    def check(self, package, want, limits):
-        """What is said of a folder, with its skeletons or declaration files where these are wanted."""
+    def ask(self, lines):
+        """Asks for folders by their lines."""
+        with contextlib.suppress(BrokenPipeError):
+            self.child.stdin.write(lines)
+            self.child.stdin.flush()
+
+    def answer(self, limits):
+        """What is said of the next folder that was asked for, with its skeletons or declaration files where these are wanted."""
         try:
             with within(self.child, limits, self.group):
-                self.child.stdin.write(json.dumps({"dir": package, **({"want": want} if want else {})}) + "\n")
-                self.child.stdin.flush()
                 line = self.child.stdout.readline()
-        except BrokenPipeError:
-            line = ""
         except Lost:
             self.close()
             raise
         if line.endswith("\n"):
-            return json.loads(line)
+            answer = json.loads(line)
+            if answer["status"] == 3:
+                raise Lost("out of memory")
+            return answer
         status = self.child.wait()
         self.close()
         raise Lost(f"killed by {signal_of(status)}" if signal_of(status) else f"its process ended with status {status}")
@@ -190,23 +197,53 @@ class Server:
 NOT_THERE = {"level": "error", "code": "no-package", "message": "there is no folder and no file of this name", "file": None}
 
 
-def run_package(package, program, limits, want=None):
-    """What one package is answered."""
-    begun = time.monotonic()
-    if not os.path.exists(package):
-        return {"status": 2, "messages": [{**NOT_THERE, "file": package}], "seconds": 0}
-    answer = Server.of(program, limits).check(package, want, limits) if os.path.isdir(package) else run_build(package, program, limits)
-    if answer["status"] == 3:
-        raise Lost("out of memory")
+def asked_for(package, want):
+    """The line that asks for a folder."""
+    return json.dumps({"dir": package, **({"want": want} if want else {})}) + "\n"
+
+
+def timed(answer, begun):
+    """An answer as the result of a package."""
     said = answer.pop("said")
     made = {**answer, "seconds": round(time.monotonic() - begun, 3)}
     return {**made, "said": said.splitlines()[-1]} if said and made["status"] > 1 else made
 
 
+def run_package(package, program, limits, want=None):
+    """What one package is answered."""
+    begun = time.monotonic()
+    if not os.path.exists(package):
+        return {"status": 2, "messages": [{**NOT_THERE, "file": package}], "seconds": 0}
+    if os.path.isdir(package):
+        server = Server.of(program, limits)
+        server.ask(asked_for(package, want))
+        return timed(server.answer(limits), begun)
+    answer = run_build(package, program, limits)
+    if answer["status"] == 3:
+        raise Lost("out of memory")
+    return timed(answer, begun)
+
+
+def run_folders(folders, program, limits, want=None):
+    """What folders are answered that are asked for together. Where one is lost, the answers before it: which one it is the others by themselves will say."""
+    made, lines = [], "".join(asked_for(it, want) for it in folders)
+    if len(folders) < 2 or len(lines) > PIPE or not all(map(os.path.isdir, folders)):
+        return made
+    with contextlib.suppress(Lost):
+        server = Server.of(program, limits)
+        server.ask(lines)
+        for _ in folders:
+            begun = time.monotonic()
+            made.append(timed(server.answer(limits), begun))
+    if len(made) < len(folders) and Server.one:
+        Server.one.close()
+    return made
+
+
 def run_packages(packages, program, limits, want=None):
     """What packages are answered one after another, each an answer or why it is lost."""
-    made = []
-    for package in packages:
+    made = run_folders(packages, program, limits, want)
+    for package in packages[len(made):]:
         try:
             made.append(run_package(package, program, limits, want))
         except Lost as lost:

@@ -144,6 +144,14 @@ def folders_are_checked_in_one_process(client, room):
     assert "status 9" in results[3]["said"], results[3]
 
 
+def a_folder_that_is_lost_among_others_is_told_alone(client, room):
+    (room.folder / "wants.json").write_text("wants\n")
+    folders = [room.folder_of(f"p{at}", f"export const {'wants' if at == 33 else 'a'}: 1 = 1;") for at in range(70)]
+    results, lost = run(client, room, folders, memory=400_000_000, tries=2)
+    assert lost == [(folders[33], "out of memory, tried 2 times")], lost
+    assert [it.get("status") for it in results] == [0] * 33 + [None] + [0] * 36, results
+
+
 def texts_are_written(client, room):
     """By the program of the variable FAST_CHECK: the one of these tests answers no skeletons."""
     if "FAST_CHECK" not in os.environ:
@@ -263,7 +271,7 @@ def a_cluster_that_is_there_is_used(client, room):
     assert sorted(json.loads(line)["status"] for line in ran.stdout.splitlines()) == [0, 1]
 
 
-TESTS = [results_are_written_as_they_come, many_packages_are_few_tasks, each_package_has_a_result, folders_are_checked_in_one_process, texts_are_written, folders_are_quick, a_cgroup_is_made_where_it_may_be,
+TESTS = [results_are_written_as_they_come, many_packages_are_few_tasks, each_package_has_a_result, folders_are_checked_in_one_process, a_folder_that_is_lost_among_others_is_told_alone, texts_are_written, folders_are_quick, a_cgroup_is_made_where_it_may_be,
          where_no_cgroup_may_be_made_memory_is_looked_at, a_run_that_was_stopped_goes_on, a_killed_task_is_tried_again, a_task_that_is_always_killed_is_told_by_name, a_task_that_takes_too_much_memory_is_told_by_name,
          a_task_without_end_is_not_tried_again, nothing_is_lost_with_a_worker, a_package_that_stands_twice_is_answered_twice, the_command_says_what_is_lost,
          a_cluster_that_is_there_is_used]

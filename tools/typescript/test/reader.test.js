@@ -205,6 +205,25 @@ test('what is wrong is said by the program where there is no compiler', { skip }
   holds(err.includes('mod.ts:1:14') && err.includes('this cannot stand here'), err);
 }));
 
+// ---- folders that are read together
+
+test('serve answers lines that come together as it answers each', { skip }, () => withFolder((folder) => {
+  write(folder, { 'odd.ts': 'export const = 1;\n', 'deno.json': '{ "name": "@test/odd", "version": "1.0.0", "exports": "./odd.ts" }' });
+  const dirs = [...['classes', 'workspace', 'missing-type', 'classes', 'nowhere', 'classes/mod.ts', 're-exports'].map((it) => path.join(PACKAGES, it)), folder];
+  const lines = [...dirs.map((dir) => JSON.stringify({ dir, want: 'skeletons' })), '{"dir": 1}', JSON.stringify({ dir: dirs[0] })];
+  const served = (/** @type {string} */ input) => childProcess.spawnSync(LAUNCHER, ['serve'], { input, encoding: 'utf8', env: { ...process.env, FAST_CHECK_SOURCE: PROGRAM || '' } }).stdout;
+  const together = served(lines.map((it) => `${it}\n`).join(''));
+  same(together.split('\n').length, lines.length + 1, 'how many lines come');
+  same(together, lines.map((it) => served(`${it}\n`)).join(''));
+}));
+test('serve answers each folder where the program fails on all together', () => withFolder((folder) => {
+  const program = path.join(folder, 'program');
+  fs.writeFileSync(program, `#!/bin/sh\n[ $# = 1 ] || exit 3\ncd ${CRATE} && sed -n "$(grep -nx "\${1##*/}" args | cut -d : -f 1)p" stdout\n`, { mode: 0o755 });
+  const input = ['other', 'package'].map((it) => `${JSON.stringify({ dir: path.join(CRATE, 'data', it) })}\n`).join('');
+  const { stdout } = childProcess.spawnSync(LAUNCHER, ['serve'], { input, encoding: 'utf8', env: { ...process.env, FAST_CHECK_SOURCE: program } });
+  same(stdout.trim().split('\n').map((it) => JSON.parse(it).status).join(' '), '1 0', 'the statuses');
+}));
+
 // ---- without Node
 
 /** Runs the program in a root that has its C library and a package, and nothing else. */

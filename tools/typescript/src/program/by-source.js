@@ -38,8 +38,32 @@ function parted(/** @type {string} */ line) {
   return { answers: answersOf(line.slice(HEAD.length, end)), told };
 }
 
+/**
+ * The lines of folders that are read before their turn.
+ *
+ * @type {Map<string, string>}
+ */
+const ahead = new Map();
+
+/** Has the program read folders, by their whole paths, that are asked for next: one run takes a third of the time of many. Where it fails each is read in its turn. */
+async function readAhead(/** @type {string} */ program, /** @type {string[]} */ dirs) {
+  ahead.clear();
+  try {
+    const { status, out } = await run([program, ...dirs], () => {}, undefined);
+    const lines = out.trimEnd().split('\n');
+    if (status <= 2 && lines.length === dirs.length) dirs.forEach((dir, at) => ahead.set(dir, lines[at]));
+  } catch (error) {
+    if (!(error instanceof ProgramError)) throw error;
+  }
+}
+
 /** The line that the program prints for a folder. */
 async function lineOf(/** @type {string} */ program, /** @type {string} */ dir, /** @type {RunContext} */ { progress, signal: ended }) {
+  const known = ahead.get(dir);
+  if (known !== undefined) {
+    ahead.delete(dir);
+    return known;
+  }
   const tell = (/** @type {string} */ line) => progress.line(line);
   const { status, out, said, signal } = await progress.during('the program is at work', run([program, dir], tell, ended));
   if (status <= 2 && out.trim()) return /** @type {string} */ (out.trimEnd());
@@ -179,4 +203,4 @@ async function readBySource(program, dir, options, context) {
   return { answers, told, info: isRead ? folder.info : null, request: requestOf(folder.resolutions) };
 }
 
-module.exports = { readBySource };
+module.exports = { readAhead, readBySource };
