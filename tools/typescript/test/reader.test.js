@@ -205,6 +205,29 @@ test('what is wrong is said by the program where there is no compiler', { skip }
   holds(err.includes('mod.ts:1:14') && err.includes('this cannot stand here'), err);
 }));
 
+// ---- places
+
+/** The places of the warnings of a module of a text. */
+async function placesIn(/** @type {string} */ text) {
+  let places = '';
+  await withFolder((folder) => {
+    write(folder, { 'mod.ts': text });
+    const { stdout } = childProcess.spawnSync(PROGRAM || '', [folder], { encoding: 'utf8', maxBuffer: 1 << 28 });
+    places = JSON.parse(stdout).warnings.map((/** @type {{ line: number, column: number }} */ it) => `${it.line}:${it.column}`).join(' ');
+  });
+  return places;
+}
+
+test('lacking modules are told by lines and UTF-16 columns', { skip }, async () => {
+  same(await placesIn('/* \u00e9\u20ac\u{1f600} */ import "./a"; import "./b";\r\nimport "./c";\rimport "./d";\n\n  export * as e from "./e";\n'), '1:19 1:33 2:8 3:8');
+});
+test('thousands of lacking modules take no longer than their text', { skip }, async () => {
+  const begun = Date.now();
+  const places = await placesIn('import "./a";\n'.repeat(20000));
+  holds(places.endsWith(' 19999:8 20000:8'), places.slice(-40));
+  holds(Date.now() - begun < 5000, `${Date.now() - begun} ms`);
+});
+
 // ---- folders that are read together
 
 test('serve answers lines that come together as it answers each', { skip }, () => withFolder((folder) => {
