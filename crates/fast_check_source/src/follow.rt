@@ -1,4 +1,5 @@
 //! The modules that entry points lead to.
+use crate::media::media_type;
 use crate::sources::{Named, SourceText, sources_of};
 use crate::urls::{external, url_of};
 use anyhow::Result;
@@ -6,7 +7,7 @@ use fast_check_source_comments::comments_of;
 use fast_check_source_configs::comments::named_types;
 use fast_check_source_configs::config::Messages;
 use fast_check_source_configs::tsconfig::Projects;
-use fast_check_source_files::files::{Files, media_type, name_of};
+use fast_check_source_files::files::{Files, name_of};
 use fast_check_source_files::messages::{Message, Places};
 use fast_check_source_mended::{mended, short_tree};
 use fast_check_source_packages::resolve::{Package, is_relative, resolve};

@@ -8,6 +8,7 @@ ghost use Rattle.std.specs.Prelude.{◌≡◌, ◌≢◌, IsTrue, vec_len};
 mod answers;
 mod follow;
 mod lines;
+mod media;
 mod members;
 mod sources;
 mod urls;

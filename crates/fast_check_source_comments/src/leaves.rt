@@ -7,7 +7,7 @@ use fast_check_tree_syntax::{Kind, Part, SourceRange};
 use std::alloc::AllocError;
 
 /// A leaf of the tree, from its first byte to the place past its last one.
-#[derive(Clone, Copy, PartialEq, Eq, Debug)]
+#[derive(Clone, Copy, PartialEq, Eq)]
 pub struct Leaf {
     pub start: usize,
     pub end: usize,

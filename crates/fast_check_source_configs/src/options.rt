@@ -1,9 +1,9 @@
 //! What a `tsconfig.json` says, with the files that it extends.
 use crate::paths::behind;
-use fast_check_source_files::files::{Files, Standing, below, folder_of, joined, media_type};
+use fast_check_source_files::files::{Files, Standing, below, folder_of, joined};
 use fast_check_source_files::globs::fits;
 use fast_check_source_files::jsonc::value_of;
-use fast_check_tables_diagnostics::parsed_source::MediaType;
+use fast_check_source_files::languages::{Language, language_of};
 use serde_json::Value;
 use std::alloc::{AllocError, Global};
 use std::collections::BTreeSet;
@@ -251,13 +251,6 @@ pub fn options_of(files: &Files<'_>, file: &str) -> Result<Options, AllocError> 
     Ok(options)
 }
 
-fn is_source(path: &str) -> bool {
-    matches!(
-        media_type(path),
-        MediaType::TypeScript | MediaType::Tsx | MediaType::Mts | MediaType::Cts
-    )
-}
-
 // Whether a path fits a pattern, or lies in a folder that does.
 fn lies_in(alloc: Global, patterns: &[String], path: &str) -> Result<bool, AllocError> {
     for pattern in patterns {
@@ -322,7 +315,9 @@ fn push_sources(
     out: &mut BTreeSet<String>,
 ) -> Result<(), AllocError> {
     for path in files.all_below(top, Standing::File)? {
-        if is_source(path.as_str()) && takes(files.alloc(), options, path.as_str())? {
+        if language_of(path.as_str()) == Language::TypeScript
+            && takes(files.alloc(), options, path.as_str())?
+        {
             let _ = out.insert(path)?;
         }
     }
@@ -338,7 +333,7 @@ pub fn sources_of(
     let mut found = BTreeSet::new(files.alloc());
     if let Some(listed) = &options.files {
         for path in listed {
-            if is_source(path.as_str()) && files.is_file(path.as_str())? {
+            if language_of(path.as_str()) == Language::TypeScript && files.is_file(path.as_str())? {
                 let _ = found.insert(path.clone()?)?;
             }
         }

@@ -2,7 +2,7 @@
 ghost use Rattle.fast_check_source_grammar.specs.Nests.{Nests};
 
 use crate::expressions::Expressions;
-use fast_check_source_grammar::{Note, ParseError, Rule, Tokens, ident_name, private_name};
+use fast_check_source_grammar::{Note, ParseError, Rule, Tokens, ident_name, parsed, private_name};
 use fast_check_source_lexer::TokenKind;
 use fast_check_tree_forms_expressions::{
     CallExpr, MemberExpr, OptCall, OptChainExpr, TaggedTpl, TsInstantiation, TsNonNullExpr,
@@ -11,7 +11,7 @@ use fast_check_tree_syntax::{SourcePos, SyntaxContext, Tree};
 use std::alloc::Global;
 
 /// What may stand behind a value.
-#[derive(Clone, Copy, PartialEq, Eq, Debug)]
+#[derive(Clone, Copy, PartialEq, Eq)]
 pub enum Links {
     All,
     /// Behind `@`: all but brackets.
@@ -209,7 +209,7 @@ impl<F: Fn(Global, &mut Tokens<'_>, usize, Rule) -> Result<Tree, ParseError>> Ex
             obj,
             prop,
         };
-        Ok(made.into_tree(alloc)?)
+        parsed(made.into_tree(alloc))
     }
 
     fn indexed(
@@ -225,7 +225,7 @@ impl<F: Fn(Global, &mut Tokens<'_>, usize, Rule) -> Result<Tree, ParseError>> Ex
             prop: self.values.computed(tokens)?,
             span: tokens.at.from(start),
         };
-        Ok(made.into_tree(self.values.types.grammar.alloc)?)
+        parsed(made.into_tree(self.values.types.grammar.alloc))
     }
 
     // `(a, b)` behind a callee and its type arguments.
@@ -268,7 +268,7 @@ impl<F: Fn(Global, &mut Tokens<'_>, usize, Rule) -> Result<Tree, ParseError>> Ex
             }
             .into_tree(alloc)
         };
-        Ok(made?)
+        parsed(made)
     }
 
     // A template behind its tag.

@@ -2,7 +2,7 @@
 ghost use Rattle.fast_check_source_grammar.specs.Nests.{Nests};
 
 use crate::look_ahead::{assigns, is_operand_in_line};
-use fast_check_source_grammar::{Cursor, Note, ParseError, Rule, Tokens};
+use fast_check_source_grammar::{Cursor, Note, ParseError, Rule, Tokens, parsed};
 use fast_check_source_lexer::{Keyword, TokenKind};
 use fast_check_source_values::{Values, is_shape, starts_value};
 use fast_check_tree_forms_expressions::{AssignExpr, CondExpr, ExprOrSpread, SeqExpr, YieldExpr};
@@ -60,7 +60,7 @@ impl<F: Fn(Global, &mut Tokens<'_>, usize, Rule) -> Result<Tree, ParseError>> Ex
             span: tokens.at.from(start),
             exprs: Tree::list(exprs),
         };
-        Ok(made.into_tree(self.values.types.grammar.alloc)?)
+        parsed(made.into_tree(self.values.types.grammar.alloc))
     }
 
     /// An expression without a comma. Between `?` and `:` an arrow function with a written result wants a `:` behind it.
@@ -118,7 +118,7 @@ impl<F: Fn(Global, &mut Tokens<'_>, usize, Rule) -> Result<Tree, ParseError>> Ex
             right: self.values.types.grammar.again(tokens, Rule::Assigned)?,
             span: tokens.at.from(start),
         };
-        Ok(made.into_tree(self.values.types.grammar.alloc)?)
+        parsed(made.into_tree(self.values.types.grammar.alloc))
     }
 
     // `[a, b] = value`
@@ -157,7 +157,7 @@ impl<F: Fn(Global, &mut Tokens<'_>, usize, Rule) -> Result<Tree, ParseError>> Ex
             alt: self.values.types.grammar.again(tokens, rule)?,
             span: tokens.at.from(start),
         };
-        Ok(made.into_tree(self.values.types.grammar.alloc)?)
+        parsed(made.into_tree(self.values.types.grammar.alloc))
     }
 
     fn yielded(&self, tokens: &mut Tokens<'_>) -> Result<Tree, ParseError>
@@ -176,7 +176,7 @@ impl<F: Fn(Global, &mut Tokens<'_>, usize, Rule) -> Result<Tree, ParseError>> Ex
             arg,
             delegate,
         };
-        Ok(made.into_tree(self.values.types.grammar.alloc)?)
+        parsed(made.into_tree(self.values.types.grammar.alloc))
     }
 
     /// An argument of a call, or an element of an array.
@@ -190,6 +190,6 @@ impl<F: Fn(Global, &mut Tokens<'_>, usize, Rule) -> Result<Tree, ParseError>> Ex
             Tree::Absent
         };
         let expr = self.assigned(tokens, false)?;
-        Ok(ExprOrSpread { spread, expr }.into_tree(self.values.types.grammar.alloc)?)
+        parsed(ExprOrSpread { spread, expr }.into_tree(self.values.types.grammar.alloc))
     }
 }

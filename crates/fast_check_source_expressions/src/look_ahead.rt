@@ -35,7 +35,7 @@ pub fn is_operand_in_line(at: Cursor<'_>) -> bool {
 }
 
 /// Whether an arrow function begins here.
-#[derive(Clone, Copy, PartialEq, Eq, Debug)]
+#[derive(Clone, Copy, PartialEq, Eq)]
 pub enum Arrow {
     Yes,
     /// It has to be tried.

@@ -3,7 +3,7 @@ ghost use Rattle.fast_check_source_grammar.specs.Nests.{Nests};
 
 use crate::expressions::Expressions;
 use crate::look_ahead::is_operand_in_line;
-use fast_check_source_grammar::{Cursor, ParseError, Rule, Tokens, private_name};
+use fast_check_source_grammar::{Cursor, ParseError, Rule, Tokens, parsed, private_name};
 use fast_check_source_lexer::{Keyword, TokenKind};
 use fast_check_source_values::{binds, starts_value};
 use fast_check_tree_forms_expressions::{
@@ -90,7 +90,7 @@ impl<F: Fn(Global, &mut Tokens<'_>, usize, Rule) -> Result<Tree, ParseError>> Ex
                 .again(tokens, Rule::Operand(least))?,
             span: tokens.at.from(start),
         };
-        Ok(made.into_tree(self.values.types.grammar.alloc)?)
+        parsed(made.into_tree(self.values.types.grammar.alloc))
     }
 
     // `as A`, `satisfies A` or `as const` behind a value.
@@ -107,7 +107,7 @@ impl<F: Fn(Global, &mut Tokens<'_>, usize, Rule) -> Result<Tree, ParseError>> Ex
         let alloc = self.values.types.grammar.alloc;
         if tokens.at.eat_word(Keyword::Const) {
             let span = tokens.at.from(start);
-            return Ok(TsConstAssertion { span, expr }.into_tree(alloc)?);
+            return parsed(TsConstAssertion { span, expr }.into_tree(alloc));
         }
         let type_ann = self.values.types.grammar.again(tokens, Rule::Type)?;
         let span = tokens.at.from(start);
@@ -126,7 +126,7 @@ impl<F: Fn(Global, &mut Tokens<'_>, usize, Rule) -> Result<Tree, ParseError>> Ex
             }
             .into_tree(alloc)
         };
-        Ok(made?)
+        parsed(made)
     }
 
     /// A value with an operator before it or behind it.
@@ -160,7 +160,7 @@ impl<F: Fn(Global, &mut Tokens<'_>, usize, Rule) -> Result<Tree, ParseError>> Ex
             arg: self.values.types.grammar.again(tokens, Rule::Unary)?,
             span: tokens.at.from(start),
         };
-        Ok(made.into_tree(self.values.types.grammar.alloc)?)
+        parsed(made.into_tree(self.values.types.grammar.alloc))
     }
 
     fn awaited(&self, tokens: &mut Tokens<'_>) -> Result<Tree, ParseError>
@@ -175,7 +175,7 @@ impl<F: Fn(Global, &mut Tokens<'_>, usize, Rule) -> Result<Tree, ParseError>> Ex
             arg: self.values.types.grammar.again(tokens, Rule::Unary)?,
             span: tokens.at.from(start),
         };
-        Ok(made.into_tree(self.values.types.grammar.alloc)?)
+        parsed(made.into_tree(self.values.types.grammar.alloc))
     }
 
     // `<A>value` or `<const>value`
@@ -192,7 +192,7 @@ impl<F: Fn(Global, &mut Tokens<'_>, usize, Rule) -> Result<Tree, ParseError>> Ex
                 expr: self.values.types.grammar.again(tokens, Rule::Unary)?,
                 span: tokens.at.from(start),
             };
-            return Ok(made.into_tree(alloc)?);
+            return parsed(made.into_tree(alloc));
         }
         let type_ann = self.values.types.grammar.again(tokens, Rule::Type)?;
         tokens.at.expect(TokenKind::Greater)?;
@@ -201,7 +201,7 @@ impl<F: Fn(Global, &mut Tokens<'_>, usize, Rule) -> Result<Tree, ParseError>> Ex
             type_ann,
             span: tokens.at.from(start),
         };
-        Ok(made.into_tree(alloc)?)
+        parsed(made.into_tree(alloc))
     }
 
     // `++a`, `a++` or a value without an operator.
@@ -219,7 +219,7 @@ impl<F: Fn(Global, &mut Tokens<'_>, usize, Rule) -> Result<Tree, ParseError>> Ex
                 arg: self.values.types.grammar.again(tokens, Rule::Postfixed)?,
                 span: tokens.at.from(start),
             };
-            return Ok(made.into_tree(alloc)?);
+            return parsed(made.into_tree(alloc));
         }
         let arg = self.postfixed(tokens)?;
         if tokens.at.newline() || !is_update(tokens.at) {
@@ -233,6 +233,6 @@ impl<F: Fn(Global, &mut Tokens<'_>, usize, Rule) -> Result<Tree, ParseError>> Ex
             prefix: false,
             arg,
         };
-        Ok(made.into_tree(alloc)?)
+        parsed(made.into_tree(alloc))
     }
 }

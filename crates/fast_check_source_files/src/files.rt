@@ -1,41 +1,8 @@
 //! Files below a folder, by their paths from it.
 ghost use Rattle.std.specs.Prelude.{◌≡◌, ◌++◌, IfOk, string_bytes};
 
-use fast_check_tables_diagnostics::parsed_source::MediaType;
 use std::alloc::{AllocError, Global};
 use std::fs::{self, Metadata};
-
-const DECLARED: [(&str, MediaType); 3] = [
-    (".d.ts", MediaType::Dts),
-    (".d.mts", MediaType::Dmts),
-    (".d.cts", MediaType::Dcts),
-];
-
-const WRITTEN: [(&str, MediaType); 8] = [
-    (".ts", MediaType::TypeScript),
-    (".mts", MediaType::Mts),
-    (".cts", MediaType::Cts),
-    (".tsx", MediaType::Tsx),
-    (".js", MediaType::JavaScript),
-    (".mjs", MediaType::Mjs),
-    (".cjs", MediaType::Cjs),
-    (".jsx", MediaType::Jsx),
-];
-
-/// What a file is written in, by its name.
-pub fn media_type(name: &str) -> MediaType {
-    for (ending, media_type) in DECLARED {
-        if name.ends_with(ending) {
-            return media_type;
-        }
-    }
-    for (ending, media_type) in WRITTEN {
-        if name.ends_with(ending) {
-            return media_type;
-        }
-    }
-    MediaType::Unknown
-}
 
 // What TypeScript looks for in place of an ending that is written.
 const REPLACED: [(&str, &[&str]); 8] = [
@@ -62,7 +29,7 @@ fn instead(name: &str) -> (&str, &'static [&'static str]) {
 const ADDED: [&str; 5] = [".ts", ".tsx", ".d.ts", ".js", ".jsx"];
 
 /// What stands at a path.
-#[derive(Clone, Copy, PartialEq, Eq, Debug)]
+#[derive(Clone, Copy, PartialEq, Eq)]
 pub enum Standing {
     Nothing,
     Folder,

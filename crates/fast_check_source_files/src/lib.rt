@@ -4,5 +4,6 @@
 pub mod files;
 pub mod globs;
 pub mod jsonc;
+pub mod languages;
 pub mod messages;
 pub mod pnpm;

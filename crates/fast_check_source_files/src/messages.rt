@@ -16,7 +16,7 @@ pub struct Message {
 }
 
 /// A place in a text: its line and its column, both from 1, in UTF-16 units.
-#[derive(Clone, Copy, PartialEq, Eq, Debug)]
+#[derive(Clone, Copy, PartialEq, Eq)]
 pub struct Place {
     pub line: usize,
     pub column: usize,

@@ -7,7 +7,7 @@ use fast_check_tree_syntax::{Atom, SourcePos, SourceRange};
 use std::alloc::{AllocError, Global};
 
 /// What a token stands in.
-#[derive(Clone, Copy, PartialEq, Eq, Debug)]
+#[derive(Clone, Copy, PartialEq, Eq)]
 pub struct Within {
     /// A function, of whatever kind.
     pub function: bool,

@@ -1,5 +1,5 @@
 //! What stops the parser.
-use fast_check_tree_syntax::SourcePos;
+use fast_check_tree_syntax::{SourcePos, Tree};
 use std::alloc::{AllocError, AllocFailed};
 
 /// Why a text is not parsed.
@@ -25,4 +25,9 @@ impl<T: Drop> From<AllocFailed<T>> for ParseError {
     fn from(_error: AllocFailed<T>) -> ParseError {
         ParseError::Memory
     }
+}
+
+/// What a rule answers of a tree that was made.
+pub fn parsed(tree: Result<Tree, AllocError>) -> Result<Tree, ParseError> {
+    Ok(tree?)
 }

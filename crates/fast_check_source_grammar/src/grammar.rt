@@ -9,7 +9,7 @@ use fast_check_tree_syntax::{Items, Tree};
 use std::alloc::Global;
 
 /// What to parse.
-#[derive(Clone, Copy, PartialEq, Eq, Debug)]
+#[derive(Clone, Copy, PartialEq, Eq)]
 pub enum Rule {
     Type,
     /// A type with its operators, as `keyof A`.

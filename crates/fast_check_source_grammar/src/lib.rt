@@ -14,7 +14,7 @@ mod shared;
 mod tokens;
 
 pub use cursor::{Cursor, Within};
-pub use error::ParseError;
+pub use error::{ParseError, parsed};
 pub use grammar::{Grammar, MAX_HEIGHT, Rule};
 pub use literals::{bool_literal, literal_key, number, quasi, regex, signed_number, string};
 pub use names::{

@@ -1,6 +1,6 @@
 //! Literals.
 use crate::cooked::cooked;
-use crate::error::ParseError;
+use crate::error::{ParseError, parsed};
 use crate::names::word_ident;
 use crate::tokens::Tokens;
 use fast_check_source_lexer::{Keyword, TokenKind};
@@ -20,7 +20,7 @@ pub fn string(alloc: Global, tokens: &mut Tokens<'_>) -> Result<Tree, ParseError
     let span = tokens.at.here();
     let raw = Tree::Text(tokens.at.written(alloc)?);
     tokens.at.advance();
-    Ok(Str { span, value, raw }.into_tree(alloc)?)
+    parsed(Str { span, value, raw }.into_tree(alloc))
 }
 
 fn number_of(
@@ -68,7 +68,7 @@ pub fn bool_literal(alloc: Global, tokens: &mut Tokens<'_>) -> Result<Tree, Pars
     let span = tokens.at.here();
     let value = tokens.at.is_word(Keyword::True);
     tokens.at.advance();
-    Ok(Bool { span, value }.into_tree(alloc)?)
+    parsed(Bool { span, value }.into_tree(alloc))
 }
 
 /// A regular expression that a `/` begins.
@@ -86,7 +86,7 @@ pub fn regex(alloc: Global, tokens: &mut Tokens<'_>) -> Result<Tree, ParseError>
     let flags = Atom::from_str(alloc, tokens.at.inside(end.saturating_add(1), 0))?;
     let span = tokens.at.here();
     tokens.at.advance();
-    Ok(Regex { span, exp, flags }.into_tree(alloc)?)
+    parsed(Regex { span, exp, flags }.into_tree(alloc))
 }
 
 /// A key that is a word, a string or a number, as an expression.
@@ -137,5 +137,5 @@ pub fn quasi(alloc: Global, tokens: &Tokens<'_>) -> Result<Tree, ParseError> {
         cooked,
         raw: with_line_feeds(alloc, text)?,
     };
-    Ok(made.into_tree(alloc)?)
+    parsed(made.into_tree(alloc))
 }

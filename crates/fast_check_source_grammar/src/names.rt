@@ -1,5 +1,5 @@
 //! Names.
-use crate::error::ParseError;
+use crate::error::{ParseError, parsed};
 use crate::tokens::Tokens;
 use fast_check_source_lexer::{Keyword, TokenKind};
 use fast_check_tree_forms_programs::{BindingIdent, Ident, IdentName, PrivateName};
@@ -78,7 +78,7 @@ pub fn word_ident(alloc: Global, tokens: &mut Tokens<'_>) -> Result<Tree, ParseE
         sym,
         optional: false,
     };
-    Ok(made.into_tree(alloc)?)
+    parsed(made.into_tree(alloc))
 }
 
 /// Any word as a name that is not resolved.
@@ -89,7 +89,7 @@ pub fn ident_name(alloc: Global, tokens: &mut Tokens<'_>) -> Result<Tree, ParseE
     let span = tokens.at.here();
     let sym = tokens.name(alloc, 0)?;
     tokens.at.advance();
-    Ok(IdentName { span, sym }.into_tree(alloc)?)
+    parsed(IdentName { span, sym }.into_tree(alloc))
 }
 
 /// `#a`
@@ -100,7 +100,7 @@ pub fn private_name(alloc: Global, tokens: &mut Tokens<'_>) -> Result<Tree, Pars
     let span = tokens.at.here();
     let name = tokens.name(alloc, 1)?;
     tokens.at.advance();
-    Ok(PrivateName { span, name }.into_tree(alloc)?)
+    parsed(PrivateName { span, name }.into_tree(alloc))
 }
 
 /// A name as a pattern.
@@ -109,7 +109,7 @@ pub fn binding(alloc: Global, tokens: &mut Tokens<'_>) -> Result<Tree, ParseErro
         id: ident(alloc, tokens)?,
         type_ann: Tree::Absent,
     };
-    Ok(made.into_tree(alloc)?)
+    parsed(made.into_tree(alloc))
 }
 
 /// `a.b.c`

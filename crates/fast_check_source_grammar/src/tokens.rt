@@ -9,7 +9,7 @@ use std::alloc::{AllocError, Global};
 use std::collections::BTreeSet;
 
 /// What is remembered of a place, so that a rule is tried in vain there but once.
-#[derive(Clone, Copy, PartialEq, Eq, Debug)]
+#[derive(Clone, Copy, PartialEq, Eq)]
 pub enum Note {
     /// No arrow function begins here.
     NoArrow,

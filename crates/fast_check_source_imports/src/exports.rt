@@ -1,6 +1,6 @@
 //! Exports of names that are declared elsewhere.
 use crate::imports::{attributes, export_name, is_type_only};
-use fast_check_source_grammar::{ParseError, Tokens, string};
+use fast_check_source_grammar::{ParseError, Tokens, parsed, string};
 use fast_check_source_lexer::{Keyword, TokenKind};
 use fast_check_tree_forms_programs::{
     ExportAll, ExportNamedSpecifier, ExportNamespaceSpecifier, NamedExport,
@@ -27,7 +27,7 @@ fn named(alloc: Global, tokens: &mut Tokens<'_>) -> Result<Tree, ParseError> {
         exported,
         is_type_only,
     };
-    Ok(made.into_tree(alloc)?)
+    parsed(made.into_tree(alloc))
 }
 
 // `from "a"`, or nothing.
@@ -61,7 +61,7 @@ fn named_export(
         type_only,
         with,
     };
-    Ok(made.into_tree(alloc)?)
+    parsed(made.into_tree(alloc))
 }
 
 /// `{ a, b as c }` behind `export`.
@@ -115,5 +115,5 @@ pub fn export_star(
         type_only,
         with,
     };
-    Ok(made.into_tree(alloc)?)
+    parsed(made.into_tree(alloc))
 }

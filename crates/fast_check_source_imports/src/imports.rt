@@ -1,6 +1,6 @@
 //! Imports.
 use fast_check_source_grammar::{
-    Cursor, ParseError, Tokens, entity, ident, ident_name, string, word_ident,
+    Cursor, ParseError, Tokens, entity, ident, ident_name, parsed, string, word_ident,
 };
 use fast_check_source_lexer::{Keyword, TokenKind};
 use fast_check_tree_forms_expressions::{KeyValueProp, ObjectLit};
@@ -86,7 +86,7 @@ pub fn attributes(alloc: Global, tokens: &mut Tokens<'_>) -> Result<Tree, ParseE
     tokens.at.expect(TokenKind::RBrace)?;
     let span = tokens.at.from(start);
     let props = Tree::list(props);
-    Ok(ObjectLit { span, props }.into_tree(alloc)?)
+    parsed(ObjectLit { span, props }.into_tree(alloc))
 }
 
 // `a`, `a as b` or `type a` in the braces of an import.
@@ -112,7 +112,7 @@ fn named(alloc: Global, tokens: &mut Tokens<'_>) -> Result<Tree, ParseError> {
         imported,
         is_type_only,
     };
-    Ok(made.into_tree(alloc)?)
+    parsed(made.into_tree(alloc))
 }
 
 // `* as a`
@@ -122,7 +122,7 @@ fn star(alloc: Global, tokens: &mut Tokens<'_>) -> Result<Tree, ParseError> {
     tokens.at.expect_word(Keyword::As)?;
     let local = ident(alloc, tokens)?;
     let span = tokens.at.from(start);
-    Ok(ImportStarAsSpecifier { span, local }.into_tree(alloc)?)
+    parsed(ImportStarAsSpecifier { span, local }.into_tree(alloc))
 }
 
 fn named_list(
@@ -173,7 +173,7 @@ fn module_ref(alloc: Global, tokens: &mut Tokens<'_>) -> Result<Tree, ParseError
     let expr = string(alloc, tokens)?;
     tokens.at.expect(TokenKind::RParen)?;
     let span = tokens.at.from(start);
-    Ok(TsExternalModuleRef { span, expr }.into_tree(alloc)?)
+    parsed(TsExternalModuleRef { span, expr }.into_tree(alloc))
 }
 
 /// `a = b.c` behind `import` or `import type`.
@@ -195,7 +195,7 @@ pub fn import_equals(
         id,
         module_ref,
     };
-    Ok(made.into_tree(alloc)?)
+    parsed(made.into_tree(alloc))
 }
 
 /// Passes `type` behind `import`, if it stands before what is imported.
@@ -239,5 +239,5 @@ pub fn import(alloc: Global, tokens: &mut Tokens<'_>) -> Result<Tree, ParseError
         with,
         phase: Atom::from_str(alloc, if is_deferred { "defer" } else { "evaluation" })?,
     };
-    Ok(made.into_tree(alloc)?)
+    parsed(made.into_tree(alloc))
 }

@@ -5,7 +5,7 @@ ghost use Rattle.fast_check_source_lexer.specs.Gaps.{IsBlank, AreBlanks, IsTwo, 
 use crate::bytes::byte;
 
 /// White space and comments: the place where they end, and whether a line ends in them.
-#[derive(Clone, Copy, Debug)]
+#[derive(Clone, Copy)]
 pub(crate) struct Gap {
     pub end: usize,
     pub newline: bool,

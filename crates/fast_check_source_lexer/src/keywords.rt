@@ -1,7 +1,7 @@
 //! The words that mean something somewhere in TypeScript.
 
 /// A word of the language, or another name.
-#[derive(Clone, Copy, PartialEq, Eq, Debug)]
+#[derive(Clone, Copy, PartialEq, Eq)]
 pub enum Keyword {
     Other,
     Abstract,
@@ -89,162 +89,173 @@ pub enum Keyword {
     Yield,
 }
 
-fn of_2(text: &[u8]) -> Keyword {
-    match text {
-        b"as" => Keyword::As,
-        b"do" => Keyword::Do,
-        b"if" => Keyword::If,
-        b"in" => Keyword::In,
-        b"is" => Keyword::Is,
-        b"of" => Keyword::Of,
-        _ => Keyword::Other,
-    }
-}
+// The words by their first letters.
+const A: [(&[u8], Keyword); 8] = [
+    (b"abstract", Keyword::Abstract),
+    (b"accessor", Keyword::Accessor),
+    (b"any", Keyword::Any),
+    (b"as", Keyword::As),
+    (b"assert", Keyword::Assert),
+    (b"asserts", Keyword::Asserts),
+    (b"async", Keyword::Async),
+    (b"await", Keyword::Await),
+];
 
-fn of_3(text: &[u8]) -> Keyword {
-    match text {
-        b"any" => Keyword::Any,
-        b"for" => Keyword::For,
-        b"get" => Keyword::Get,
-        b"let" => Keyword::Let,
-        b"new" => Keyword::New,
-        b"out" => Keyword::Out,
-        b"set" => Keyword::Set,
-        b"try" => Keyword::Try,
-        b"var" => Keyword::Var,
-        _ => Keyword::Other,
-    }
-}
+const B: [(&[u8], Keyword); 3] = [
+    (b"bigint", Keyword::Bigint),
+    (b"boolean", Keyword::Boolean),
+    (b"break", Keyword::Break),
+];
 
-fn of_4(text: &[u8]) -> Keyword {
-    match text {
-        b"case" => Keyword::Case,
-        b"else" => Keyword::Else,
-        b"enum" => Keyword::Enum,
-        b"from" => Keyword::From,
-        b"null" => Keyword::Null,
-        b"this" => Keyword::This,
-        b"true" => Keyword::True,
-        b"type" => Keyword::Type,
-        b"void" => Keyword::Void,
-        b"with" => Keyword::With,
-        _ => Keyword::Other,
-    }
-}
+const C: [(&[u8], Keyword); 6] = [
+    (b"case", Keyword::Case),
+    (b"catch", Keyword::Catch),
+    (b"class", Keyword::Class),
+    (b"const", Keyword::Const),
+    (b"constructor", Keyword::Constructor),
+    (b"continue", Keyword::Continue),
+];
 
-fn of_5(text: &[u8]) -> Keyword {
-    match text {
-        b"async" => Keyword::Async,
-        b"await" => Keyword::Await,
-        b"break" => Keyword::Break,
-        b"catch" => Keyword::Catch,
-        b"class" => Keyword::Class,
-        b"const" => Keyword::Const,
-        b"false" => Keyword::False,
-        b"infer" => Keyword::Infer,
-        b"keyof" => Keyword::Keyof,
-        b"never" => Keyword::Never,
-        b"super" => Keyword::Super,
-        b"throw" => Keyword::Throw,
-        b"using" => Keyword::Using,
-        b"while" => Keyword::While,
-        b"yield" => Keyword::Yield,
-        _ => Keyword::Other,
-    }
-}
+const D: [(&[u8], Keyword); 5] = [
+    (b"debugger", Keyword::Debugger),
+    (b"declare", Keyword::Declare),
+    (b"default", Keyword::Default),
+    (b"delete", Keyword::Delete),
+    (b"do", Keyword::Do),
+];
 
-fn of_6(text: &[u8]) -> Keyword {
-    match text {
-        b"assert" => Keyword::Assert,
-        b"bigint" => Keyword::Bigint,
-        b"delete" => Keyword::Delete,
-        b"export" => Keyword::Export,
-        b"global" => Keyword::Global,
-        b"import" => Keyword::Import,
-        b"module" => Keyword::Module,
-        b"number" => Keyword::Number,
-        b"object" => Keyword::Object,
-        b"public" => Keyword::Public,
-        b"return" => Keyword::Return,
-        b"static" => Keyword::Static,
-        b"string" => Keyword::String,
-        b"switch" => Keyword::Switch,
-        b"symbol" => Keyword::Symbol,
-        b"typeof" => Keyword::Typeof,
-        b"unique" => Keyword::Unique,
-        _ => Keyword::Other,
-    }
-}
+const E: [(&[u8], Keyword); 4] = [
+    (b"else", Keyword::Else),
+    (b"enum", Keyword::Enum),
+    (b"export", Keyword::Export),
+    (b"extends", Keyword::Extends),
+];
 
-fn of_7(text: &[u8]) -> Keyword {
-    match text {
-        b"asserts" => Keyword::Asserts,
-        b"boolean" => Keyword::Boolean,
-        b"declare" => Keyword::Declare,
-        b"default" => Keyword::Default,
-        b"extends" => Keyword::Extends,
-        b"finally" => Keyword::Finally,
-        b"package" => Keyword::Package,
-        b"private" => Keyword::Private,
-        b"require" => Keyword::Require,
-        b"unknown" => Keyword::Unknown,
-        _ => Keyword::Other,
-    }
-}
+const F: [(&[u8], Keyword); 5] = [
+    (b"false", Keyword::False),
+    (b"finally", Keyword::Finally),
+    (b"for", Keyword::For),
+    (b"from", Keyword::From),
+    (b"function", Keyword::Function),
+];
 
-fn of_8(text: &[u8]) -> Keyword {
-    match text {
-        b"abstract" => Keyword::Abstract,
-        b"accessor" => Keyword::Accessor,
-        b"continue" => Keyword::Continue,
-        b"debugger" => Keyword::Debugger,
-        b"function" => Keyword::Function,
-        b"override" => Keyword::Override,
-        b"readonly" => Keyword::Readonly,
-        _ => Keyword::Other,
-    }
-}
+const G: [(&[u8], Keyword); 2] = [(b"get", Keyword::Get), (b"global", Keyword::Global)];
 
-fn of_9(text: &[u8]) -> Keyword {
-    match text {
-        b"interface" => Keyword::Interface,
-        b"intrinsic" => Keyword::Intrinsic,
-        b"namespace" => Keyword::Namespace,
-        b"protected" => Keyword::Protected,
-        b"satisfies" => Keyword::Satisfies,
-        b"undefined" => Keyword::Undefined,
-        _ => Keyword::Other,
-    }
-}
+const I: [(&[u8], Keyword); 9] = [
+    (b"if", Keyword::If),
+    (b"implements", Keyword::Implements),
+    (b"import", Keyword::Import),
+    (b"in", Keyword::In),
+    (b"infer", Keyword::Infer),
+    (b"instanceof", Keyword::Instanceof),
+    (b"interface", Keyword::Interface),
+    (b"intrinsic", Keyword::Intrinsic),
+    (b"is", Keyword::Is),
+];
 
-fn of_10(text: &[u8]) -> Keyword {
-    match text {
-        b"implements" => Keyword::Implements,
-        b"instanceof" => Keyword::Instanceof,
-        _ => Keyword::Other,
-    }
-}
+const K: [(&[u8], Keyword); 1] = [(b"keyof", Keyword::Keyof)];
 
-fn of_11(text: &[u8]) -> Keyword {
-    match text {
-        b"constructor" => Keyword::Constructor,
-        _ => Keyword::Other,
+const L: [(&[u8], Keyword); 1] = [(b"let", Keyword::Let)];
+
+const M: [(&[u8], Keyword); 1] = [(b"module", Keyword::Module)];
+
+const N: [(&[u8], Keyword); 5] = [
+    (b"namespace", Keyword::Namespace),
+    (b"never", Keyword::Never),
+    (b"new", Keyword::New),
+    (b"null", Keyword::Null),
+    (b"number", Keyword::Number),
+];
+
+const O: [(&[u8], Keyword); 4] = [
+    (b"object", Keyword::Object),
+    (b"of", Keyword::Of),
+    (b"out", Keyword::Out),
+    (b"override", Keyword::Override),
+];
+
+const P: [(&[u8], Keyword); 4] = [
+    (b"package", Keyword::Package),
+    (b"private", Keyword::Private),
+    (b"protected", Keyword::Protected),
+    (b"public", Keyword::Public),
+];
+
+const R: [(&[u8], Keyword); 3] = [
+    (b"readonly", Keyword::Readonly),
+    (b"require", Keyword::Require),
+    (b"return", Keyword::Return),
+];
+
+const S: [(&[u8], Keyword); 7] = [
+    (b"satisfies", Keyword::Satisfies),
+    (b"set", Keyword::Set),
+    (b"static", Keyword::Static),
+    (b"string", Keyword::String),
+    (b"super", Keyword::Super),
+    (b"switch", Keyword::Switch),
+    (b"symbol", Keyword::Symbol),
+];
+
+const T: [(&[u8], Keyword); 6] = [
+    (b"this", Keyword::This),
+    (b"throw", Keyword::Throw),
+    (b"true", Keyword::True),
+    (b"try", Keyword::Try),
+    (b"type", Keyword::Type),
+    (b"typeof", Keyword::Typeof),
+];
+
+const U: [(&[u8], Keyword); 4] = [
+    (b"undefined", Keyword::Undefined),
+    (b"unique", Keyword::Unique),
+    (b"unknown", Keyword::Unknown),
+    (b"using", Keyword::Using),
+];
+
+const V: [(&[u8], Keyword); 2] = [(b"var", Keyword::Var), (b"void", Keyword::Void)];
+
+const W: [(&[u8], Keyword); 2] = [(b"while", Keyword::While), (b"with", Keyword::With)];
+
+const Y: [(&[u8], Keyword); 1] = [(b"yield", Keyword::Yield)];
+
+// The words that begin with a letter.
+fn words_with(first: u8) -> &'static [(&'static [u8], Keyword)] {
+    match first {
+        b'a' => &A,
+        b'b' => &B,
+        b'c' => &C,
+        b'd' => &D,
+        b'e' => &E,
+        b'f' => &F,
+        b'g' => &G,
+        b'i' => &I,
+        b'k' => &K,
+        b'l' => &L,
+        b'm' => &M,
+        b'n' => &N,
+        b'o' => &O,
+        b'p' => &P,
+        b'r' => &R,
+        b's' => &S,
+        b't' => &T,
+        b'u' => &U,
+        b'v' => &V,
+        b'w' => &W,
+        b'y' => &Y,
+        _ => &[],
     }
 }
 
 /// Which word a text is.
 pub fn keyword_of(text: &[u8]) -> Keyword {
-    match text.len() {
-        2 => of_2(text),
-        3 => of_3(text),
-        4 => of_4(text),
-        5 => of_5(text),
-        6 => of_6(text),
-        7 => of_7(text),
-        8 => of_8(text),
-        9 => of_9(text),
-        10 => of_10(text),
-        11 => of_11(text),
-        _ => Keyword::Other,
+    let Some(first) = text.first() else {
+        return Keyword::Other;
+    };
+    for (word, keyword) in words_with(*first) {
+        if *word == text {
+            return *keyword;
+        }
     }
+    Keyword::Other
 }

@@ -1,7 +1,7 @@
 //! The kinds of tokens.
 
 /// What a token is. A word is a `Name`, whatever it means: `keyword_of` says which word. A name with an escape is no word.
-#[derive(Clone, Copy, PartialEq, Eq, Debug)]
+#[derive(Clone, Copy, PartialEq, Eq)]
 pub enum TokenKind {
     /// The end of the text.
     End,

@@ -45,7 +45,7 @@ pub(crate) fn past_string(quote: u8, z: &[u8], at: usize) -> (usize, bool)
 }
 
 /// How a part of a template ends.
-#[derive(Clone, Copy, PartialEq, Eq, Debug)]
+#[derive(Clone, Copy, PartialEq, Eq)]
 pub(crate) enum TemplateEnd {
     Closed,
     Opened,

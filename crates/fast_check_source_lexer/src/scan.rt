@@ -10,7 +10,7 @@ use crate::kind::TokenKind;
 use crate::literals::{TemplateEnd, number, past_regex, past_string, past_template};
 
 /// A token: the bytes from `start` to `end` of the text.
-#[derive(Clone, Copy, PartialEq, Eq, Debug)]
+#[derive(Clone, Copy, PartialEq, Eq)]
 pub struct Token {
     pub kind: TokenKind,
     /// Whether a line ends between the token before it and this one.

@@ -1,2 +1,1 @@
-pub mod Scripts
 pub mod Folders

@@ -1,13 +1,12 @@
 //! Files of a build, and the sources that stand for them.
 ghost use Rattle.std.specs.Prelude.{◌≡◌};
-ghost use Rattle.fast_check_source_packages.specs.Scripts.{is_javascript};
 
 use crate::exports::Entry;
 use fast_check_source_configs::options::{Options, options_of, sources_of};
 use fast_check_source_configs::paths::{behind, inside};
 use fast_check_source_configs::tsconfig::{Projects, references};
-use fast_check_source_files::files::{Files, Standing, folder_of, joined, media_type, name_of};
-use fast_check_tables_diagnostics::parsed_source::MediaType;
+use fast_check_source_files::files::{Files, Standing, folder_of, joined, name_of};
+use fast_check_source_files::languages::{Language, language_of};
 use std::alloc::{AllocError, Global};
 use std::collections::{BTreeMap, BTreeSet};
 
@@ -23,6 +22,14 @@ const BUILT: [&str; 9] = [
 
 const WRITTEN: [&str; 4] = [".ts", ".tsx", ".mts", ".cts"];
 
+// The endings of sources, with those of what the compiler writes for them.
+const OUTPUTS: [(&str, &str, &str); 4] = [
+    (".ts", ".js", ".d.ts"),
+    (".tsx", ".js", ".d.ts"),
+    (".mts", ".mjs", ".d.mts"),
+    (".cts", ".cjs", ".d.cts"),
+];
+
 const WHOLE: [&str; 3] = ["src/index.ts", "src/index.tsx", "src/index.mts"];
 
 // A path without the ending that a file of a build has.
@@ -35,30 +42,13 @@ fn without_ending(path: &str) -> Option<&str> {
     None
 }
 
-fn is_written(media_type: MediaType) -> bool {
-    matches!(
-        media_type,
-        MediaType::TypeScript | MediaType::Tsx | MediaType::Mts | MediaType::Cts
-    )
-}
-
-/// Whether a file is JavaScript.
-pub fn is_script(media_type: MediaType) -> bool
-    ensures { result ≡ is_javascript media_type }
-{
-    matches!(
-        media_type,
-        MediaType::JavaScript | MediaType::Jsx | MediaType::Mjs | MediaType::Cjs
-    )
-}
-
 /// The file that a path stands for: the one that is there, but for JavaScript, beside which its declarations may lie.
 pub fn file_of(
     files: &Files<'_>,
     projects: &mut Projects,
     wanted: &str,
 ) -> Result<Option<String>, AllocError> {
-    if files.is_file(wanted)? && !is_script(media_type(wanted)) {
+    if files.is_file(wanted)? && language_of(wanted) != Language::JavaScript {
         return Ok(Some(String::from_str(files.alloc(), wanted)?));
     }
     projects.find(files, wanted, wanted)
@@ -85,10 +75,10 @@ pub fn is_built(
         return Ok(false);
     }
     match file_of(files, projects, wanted)? {
-        Some(found) => {
-            let found = media_type(found.as_str());
-            Ok(found.is_declaration() || is_script(found))
-        }
+        Some(found) => Ok(matches!(
+            language_of(found.as_str()),
+            Language::Declarations | Language::JavaScript
+        )),
         None => Ok(true),
     }
 }
@@ -223,7 +213,7 @@ pub fn is_unread(
     }
     let sources = inside(files.alloc(), folder, "src")?;
     for file in files.all_below(sources.as_str(), Standing::File)? {
-        if is_written(media_type(file.as_str())) {
+        if language_of(file.as_str()) == Language::TypeScript {
             return Ok(true);
         }
     }
@@ -232,14 +222,14 @@ pub fn is_unread(
 
 // What the compiler writes for a source: the stem of its name, with the endings of the script and of its declarations.
 fn outputs(source: &str) -> Option<(&str, &'static str, &'static str)> {
-    let endings = match media_type(source) {
-        MediaType::TypeScript => (".ts", ".js", ".d.ts"),
-        MediaType::Tsx => (".tsx", ".js", ".d.ts"),
-        MediaType::Mts => (".mts", ".mjs", ".d.mts"),
-        MediaType::Cts => (".cts", ".cjs", ".d.cts"),
-        _ => return None,
-    };
-    Some((source.strip_suffix(endings.0)?, endings.1, endings.2))
+    if language_of(source) == Language::TypeScript {
+        for (ending, script, declarations) in OUTPUTS {
+            if let Some(stem) = source.strip_suffix(ending) {
+                return Some((stem, script, declarations));
+            }
+        }
+    }
+    None
 }
 
 // Adds a file that the compiler writes into a folder, unless it is the source itself or known.

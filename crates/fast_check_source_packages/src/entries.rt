@@ -4,9 +4,9 @@ use crate::exports::{Entry, Taken, expanded, push_entry, written_exports};
 use fast_check_source_configs::config::{Config, path_in, quoted, text_of};
 use fast_check_source_configs::paths::{behind, inside};
 use fast_check_source_configs::tsconfig::Projects;
-use fast_check_source_files::files::{Files, joined, media_type};
+use fast_check_source_files::files::{Files, joined};
+use fast_check_source_files::languages::{Language, language_of};
 use fast_check_source_files::messages::Message;
-use fast_check_tables_diagnostics::parsed_source::MediaType;
 use std::alloc::{AllocError, Global};
 use std::collections::BTreeMap;
 
@@ -177,7 +177,7 @@ impl<'a> Written<'a> {
         file: &str,
         out: &mut Entries,
     ) -> Result<(), AllocError> {
-        if media_type(file) != MediaType::Unknown {
+        if language_of(file) != Language::Other {
             return push_entry(alloc, key, file, &mut out.found);
         }
         if file.ends_with(".json") {

@@ -3,8 +3,8 @@ ghost use Rattle.std.specs.Prelude.{◌≡◌, ◌+◌, OnOk, vec_len};
 
 use fast_check_source_configs::config::{Config, member, path_in, path_of, text_of};
 use fast_check_source_configs::paths::with_rest;
-use fast_check_source_files::files::{Files, Standing, media_type};
-use fast_check_tables_diagnostics::parsed_source::MediaType;
+use fast_check_source_files::files::{Files, Standing};
+use fast_check_source_files::languages::{Language, language_of};
 use serde_json::Value;
 use std::alloc::{AllocError, Global};
 use std::collections::BTreeMap;
@@ -106,7 +106,7 @@ fn push_fitting(
     out: &mut Vec<Entry>,
 ) -> Result<(), AllocError> {
     if let Some((before, behind)) = pattern.split_once('*')
-        && media_type(file) != MediaType::Unknown
+        && language_of(file) != Language::Other
         && let Some(star) = star_of(file, before, behind)
     {
         let key = with_rest(alloc, key, star)?;

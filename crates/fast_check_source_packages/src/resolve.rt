@@ -2,12 +2,13 @@
 ghost use Rattle.std.specs.Prelude.{IfSome, string_bytes};
 ghost use Rattle.fast_check_source_packages.specs.Folders.{LiesIn};
 
-use crate::builds::{file_of, is_script};
+use crate::builds::file_of;
 use crate::exports::{Entry, Taken};
 use fast_check_source_configs::comments::self_types;
 use fast_check_source_configs::paths::{behind, rest_of, with_rest};
 use fast_check_source_configs::tsconfig::Projects;
-use fast_check_source_files::files::{Files, below, folder_of, joined, media_type};
+use fast_check_source_files::files::{Files, below, folder_of, joined};
+use fast_check_source_files::languages::{Language, language_of};
 use std::alloc::{AllocError, Global};
 use std::collections::BTreeMap;
 
@@ -264,7 +265,7 @@ fn first_found(
 
 // The declaration file beside JavaScript, or the file itself.
 fn declared(files: &Files<'_>, projects: &mut Projects, file: &str) -> Result<String, AllocError> {
-    if is_script(media_type(file))
+    if language_of(file) == Language::JavaScript
         && let Some(found) = file_of(files, projects, file)?
     {
         return Ok(found);
@@ -290,7 +291,7 @@ fn named_by_itself(
 /// The declaration file of JavaScript, or the file itself.
 pub fn typed(files: &Files<'_>, projects: &mut Projects, file: &str) -> Result<String, AllocError> {
     let found = declared(files, projects, file)?;
-    if is_script(media_type(found.as_str()))
+    if language_of(found.as_str()) == Language::JavaScript
         && let Some(types) = named_by_itself(files, projects, found.as_str())?
     {
         return Ok(types);

@@ -54,7 +54,7 @@ fn inner_of(value: Part<'_>) -> Option<Part<'_>> {
 }
 
 /// What a part is looked at as.
-#[derive(Clone, Copy, PartialEq, Eq, Debug)]
+#[derive(Clone, Copy, PartialEq, Eq)]
 pub enum Way {
     /// As it is written: a type, or what stands in a skeleton as it is.
     Written,

@@ -4,7 +4,7 @@ use std::alloc::{AllocError, Global};
 use std::collections::BTreeMap;
 
 /// As what a name is bound, or looked up: as a value, as a type, or as a namespace.
-#[derive(Clone, Copy, PartialEq, Eq, Debug)]
+#[derive(Clone, Copy, PartialEq, Eq)]
 pub struct Meaning {
     pub value: bool,
     pub is_type: bool,
@@ -52,7 +52,7 @@ impl Meaning {
 }
 
 /// The number of a scope among those of a module.
-#[derive(Clone, Copy, PartialEq, Eq, Debug)]
+#[derive(Clone, Copy, PartialEq, Eq)]
 pub struct ScopeNo(pub usize);
 
 #[derive(Drop)]
@@ -66,7 +66,7 @@ struct Scope {
 }
 
 /// The number of a namespace or an enum that is written in several blocks.
-#[derive(Clone, Copy, PartialEq, Eq, Debug)]
+#[derive(Clone, Copy, PartialEq, Eq)]
 pub struct GroupNo(pub usize);
 
 /// The scopes of a module. The first one is that of its top.

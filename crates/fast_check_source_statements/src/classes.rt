@@ -2,7 +2,7 @@
 ghost use Rattle.fast_check_source_grammar.specs.Nests.{Nests};
 
 use crate::statements::{Opening, Statements};
-use fast_check_source_grammar::{Cursor, ParseError, Rule, Tokens, ident, sees_ident};
+use fast_check_source_grammar::{Cursor, ParseError, Rule, Tokens, ident, parsed, sees_ident};
 use fast_check_source_lexer::{Keyword, TokenKind};
 use fast_check_tree_forms_classes::Class;
 use fast_check_tree_forms_expressions::ClassExpr;
@@ -34,7 +34,7 @@ impl<F: Fn(Global, &mut Tokens<'_>, usize, Rule) -> Result<Tree, ParseError>> St
             declare: opening.declare,
             class: self.class_rest(tokens, opening.start, is_abstract, decorators)?,
         };
-        Ok(made.into_tree(alloc)?)
+        parsed(made.into_tree(alloc))
     }
 
     /// `class A {}` as a value.
@@ -65,7 +65,7 @@ impl<F: Fn(Global, &mut Tokens<'_>, usize, Rule) -> Result<Tree, ParseError>> St
             Tree::Absent
         };
         let class = self.class_rest(tokens, start, is_abstract, decorators)?;
-        Ok(ClassExpr { ident, class }.into_tree(alloc)?)
+        parsed(ClassExpr { ident, class }.into_tree(alloc))
     }
 
     fn class_rest(
@@ -106,7 +106,7 @@ impl<F: Fn(Global, &mut Tokens<'_>, usize, Rule) -> Result<Tree, ParseError>> St
             implements,
             span: tokens.at.from(start),
         };
-        Ok(made.into_tree(self.expressions.values.types.grammar.alloc)?)
+        parsed(made.into_tree(self.expressions.values.types.grammar.alloc))
     }
 
     /// A class behind decorators, which may be exported.
@@ -143,7 +143,7 @@ impl<F: Fn(Global, &mut Tokens<'_>, usize, Rule) -> Result<Tree, ParseError>> St
         if is_default {
             let decl = self.class_expr(tokens, at, decorators)?;
             let span = tokens.at.from(start);
-            return Ok(ExportDefaultDecl { span, decl }.into_tree(alloc)?);
+            return parsed(ExportDefaultDecl { span, decl }.into_tree(alloc));
         }
         let opening = Opening {
             start: at,
@@ -151,6 +151,6 @@ impl<F: Fn(Global, &mut Tokens<'_>, usize, Rule) -> Result<Tree, ParseError>> St
         };
         let decl = self.class(tokens, opening, decorators)?;
         let span = tokens.at.from(start);
-        Ok(ExportDecl { span, decl }.into_tree(alloc)?)
+        parsed(ExportDecl { span, decl }.into_tree(alloc))
     }
 }

@@ -3,7 +3,7 @@ ghost use Rattle.fast_check_source_grammar.specs.Nests.{Nests};
 
 use crate::statements::{Opening, Statements};
 use fast_check_source_grammar::{
-    ParseError, Rule, Tokens, ident, ident_name, number, string, word_ident,
+    ParseError, Rule, Tokens, ident, ident_name, number, parsed, string, word_ident,
 };
 use fast_check_source_lexer::{Keyword, TokenKind};
 use fast_check_source_values::Marks;
@@ -62,7 +62,7 @@ impl<F: Fn(Global, &mut Tokens<'_>, usize, Rule) -> Result<Tree, ParseError>> St
             type_args: self.expressions.values.types.type_args(tokens)?,
             span: tokens.at.from(start),
         };
-        Ok(made.into_tree(alloc)?)
+        parsed(made.into_tree(alloc))
     }
 
     /// `A, B<C>` behind a word, or nothing.
@@ -104,7 +104,7 @@ impl<F: Fn(Global, &mut Tokens<'_>, usize, Rule) -> Result<Tree, ParseError>> St
             extends,
             body: body.into_tree(alloc)?,
         };
-        Ok(made.into_tree(alloc)?)
+        parsed(made.into_tree(alloc))
     }
 
     /// `type A = B;`
@@ -125,7 +125,7 @@ impl<F: Fn(Global, &mut Tokens<'_>, usize, Rule) -> Result<Tree, ParseError>> St
             type_params,
             type_ann,
         };
-        Ok(made.into_tree(alloc)?)
+        parsed(made.into_tree(alloc))
     }
 
     /// `async function a() {}`
@@ -149,7 +149,7 @@ impl<F: Fn(Global, &mut Tokens<'_>, usize, Rule) -> Result<Tree, ParseError>> St
             declare: opening.declare,
             function,
         };
-        Ok(made.into_tree(alloc)?)
+        parsed(made.into_tree(alloc))
     }
 
     // `a: A = b` among variables.
@@ -173,7 +173,7 @@ impl<F: Fn(Global, &mut Tokens<'_>, usize, Rule) -> Result<Tree, ParseError>> St
             init,
             definite,
         };
-        Ok(made.into_tree(self.expressions.values.types.grammar.alloc)?)
+        parsed(made.into_tree(self.expressions.values.types.grammar.alloc))
     }
 
     fn declarators(&self, tokens: &mut Tokens<'_>) -> Result<Tree, ParseError>
@@ -215,7 +215,7 @@ impl<F: Fn(Global, &mut Tokens<'_>, usize, Rule) -> Result<Tree, ParseError>> St
             declare: opening.declare,
             decls,
         };
-        Ok(made.into_tree(self.expressions.values.types.grammar.alloc)?)
+        parsed(made.into_tree(self.expressions.values.types.grammar.alloc))
     }
 
     /// `using a = b` or `await using a = b`
@@ -238,7 +238,7 @@ impl<F: Fn(Global, &mut Tokens<'_>, usize, Rule) -> Result<Tree, ParseError>> St
             is_await,
             decls,
         };
-        Ok(made.into_tree(self.expressions.values.types.grammar.alloc)?)
+        parsed(made.into_tree(self.expressions.values.types.grammar.alloc))
     }
 
     /// `const enum A { B = 1 }`
@@ -263,7 +263,7 @@ impl<F: Fn(Global, &mut Tokens<'_>, usize, Rule) -> Result<Tree, ParseError>> St
             id,
             members,
         };
-        Ok(made.into_tree(alloc)?)
+        parsed(made.into_tree(alloc))
     }
 
     pub fn enum_member(&self, tokens: &mut Tokens<'_>) -> Result<Tree, ParseError>
@@ -282,6 +282,6 @@ impl<F: Fn(Global, &mut Tokens<'_>, usize, Rule) -> Result<Tree, ParseError>> St
             Tree::Absent
         };
         let span = tokens.at.from(start);
-        Ok(TsEnumMember { span, id, init }.into_tree(alloc)?)
+        parsed(TsEnumMember { span, id, init }.into_tree(alloc))
     }
 }

@@ -2,7 +2,7 @@
 ghost use Rattle.fast_check_source_grammar.specs.Nests.{Nests};
 
 use crate::statements::{Opening, Statements, is_in_line, sees_declaration};
-use fast_check_source_grammar::{Cursor, ParseError, Rule, Tokens, ident};
+use fast_check_source_grammar::{Cursor, ParseError, Rule, Tokens, ident, parsed};
 use fast_check_source_imports::{eat_type, export_names, export_star, import_equals};
 use fast_check_source_lexer::{Keyword, TokenKind};
 use fast_check_tree_forms_programs::{
@@ -65,7 +65,7 @@ impl<F: Fn(Global, &mut Tokens<'_>, usize, Rule) -> Result<Tree, ParseError>> St
                 let id = ident(alloc, tokens)?;
                 tokens.at.end_statement()?;
                 let span = tokens.at.from(start);
-                Ok(TsNamespaceExportDecl { span, id }.into_tree(alloc)?)
+                parsed(TsNamespaceExportDecl { span, id }.into_tree(alloc))
             }
             Keyword::Import => {
                 tokens.at.advance();
@@ -90,7 +90,7 @@ impl<F: Fn(Global, &mut Tokens<'_>, usize, Rule) -> Result<Tree, ParseError>> St
         }
         let decl = self.declaration(tokens, Opening { start: at, declare })?;
         let span = tokens.at.from(start);
-        Ok(ExportDecl { span, decl }.into_tree(self.expressions.values.types.grammar.alloc)?)
+        parsed(ExportDecl { span, decl }.into_tree(self.expressions.values.types.grammar.alloc))
     }
 
     // `= a` behind `export`.
@@ -106,9 +106,9 @@ impl<F: Fn(Global, &mut Tokens<'_>, usize, Rule) -> Result<Tree, ParseError>> St
             .again(tokens, Rule::Assigned)?;
         tokens.at.end_statement()?;
         let span = tokens.at.from(start);
-        Ok(TsExportAssignment { span, expr }.into_tree(
+        parsed(TsExportAssignment { span, expr }.into_tree(
             self.expressions.values.types.grammar.alloc,
-        )?)
+        ))
     }
 
     fn default_export(&self, tokens: &mut Tokens<'_>, start: SourcePos) -> Result<Tree, ParseError>
@@ -140,9 +140,9 @@ impl<F: Fn(Global, &mut Tokens<'_>, usize, Rule) -> Result<Tree, ParseError>> St
                 .again(tokens, Rule::Assigned)?;
             tokens.at.end_statement()?;
             let span = tokens.at.from(start);
-            return Ok(ExportDefaultExpr { span, expr }.into_tree(alloc)?);
+            return parsed(ExportDefaultExpr { span, expr }.into_tree(alloc));
         };
         let span = tokens.at.from(start);
-        Ok(ExportDefaultDecl { span, decl }.into_tree(alloc)?)
+        parsed(ExportDefaultDecl { span, decl }.into_tree(alloc))
     }
 }

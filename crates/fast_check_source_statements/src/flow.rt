@@ -2,7 +2,7 @@
 ghost use Rattle.fast_check_source_grammar.specs.Nests.{Nests};
 
 use crate::statements::Statements;
-use fast_check_source_grammar::{Cursor, ParseError, Rule, Tokens, ident, sees_ident};
+use fast_check_source_grammar::{Cursor, ParseError, Rule, Tokens, ident, parsed, sees_ident};
 use fast_check_source_lexer::{Keyword, TokenKind};
 use fast_check_tree_forms_statements::{
     BreakStmt, CatchClause, ContinueStmt, DebuggerStmt, ExprStmt, IfStmt, LabeledStmt, ReturnStmt,
@@ -88,7 +88,7 @@ impl<F: Fn(Global, &mut Tokens<'_>, usize, Rule) -> Result<Tree, ParseError>> St
                 .grammar
                 .again(tokens, Rule::Statement)?;
             let span = tokens.at.from(start);
-            return Ok(LabeledStmt { span, label, body }.into_tree(alloc)?);
+            return parsed(LabeledStmt { span, label, body }.into_tree(alloc));
         }
         let expr = self
             .expressions
@@ -98,7 +98,7 @@ impl<F: Fn(Global, &mut Tokens<'_>, usize, Rule) -> Result<Tree, ParseError>> St
             .again(tokens, Rule::Expression)?;
         tokens.at.end_statement()?;
         let span = tokens.at.from(start);
-        Ok(ExprStmt { span, expr }.into_tree(alloc)?)
+        parsed(ExprStmt { span, expr }.into_tree(alloc))
     }
 
     fn returned(&self, tokens: &mut Tokens<'_>) -> Result<Tree, ParseError>
@@ -117,7 +117,7 @@ impl<F: Fn(Global, &mut Tokens<'_>, usize, Rule) -> Result<Tree, ParseError>> St
         };
         tokens.at.end_statement()?;
         let span = tokens.at.from(start);
-        Ok(ReturnStmt { span, arg }.into_tree(self.expressions.values.types.grammar.alloc)?)
+        parsed(ReturnStmt { span, arg }.into_tree(self.expressions.values.types.grammar.alloc))
     }
 
     fn thrown(&self, tokens: &mut Tokens<'_>) -> Result<Tree, ParseError>
@@ -136,7 +136,7 @@ impl<F: Fn(Global, &mut Tokens<'_>, usize, Rule) -> Result<Tree, ParseError>> St
             .again(tokens, Rule::Expression)?;
         tokens.at.end_statement()?;
         let span = tokens.at.from(start);
-        Ok(ThrowStmt { span, arg }.into_tree(self.expressions.values.types.grammar.alloc)?)
+        parsed(ThrowStmt { span, arg }.into_tree(self.expressions.values.types.grammar.alloc))
     }
 
     // The label behind `break` or `continue`, and what ends the statement.
@@ -155,14 +155,14 @@ impl<F: Fn(Global, &mut Tokens<'_>, usize, Rule) -> Result<Tree, ParseError>> St
         let start = tokens.at.start();
         let label = self.label(tokens)?;
         let span = tokens.at.from(start);
-        Ok(BreakStmt { span, label }.into_tree(self.expressions.values.types.grammar.alloc)?)
+        parsed(BreakStmt { span, label }.into_tree(self.expressions.values.types.grammar.alloc))
     }
 
     fn continued(&self, tokens: &mut Tokens<'_>) -> Result<Tree, ParseError> {
         let start = tokens.at.start();
         let label = self.label(tokens)?;
         let span = tokens.at.from(start);
-        Ok(ContinueStmt { span, label }.into_tree(self.expressions.values.types.grammar.alloc)?)
+        parsed(ContinueStmt { span, label }.into_tree(self.expressions.values.types.grammar.alloc))
     }
 
     fn debugger(&self, tokens: &mut Tokens<'_>) -> Result<Tree, ParseError> {
@@ -170,7 +170,7 @@ impl<F: Fn(Global, &mut Tokens<'_>, usize, Rule) -> Result<Tree, ParseError>> St
         tokens.at.advance();
         tokens.at.end_statement()?;
         let span = tokens.at.from(start);
-        Ok(DebuggerStmt { span }.into_tree(self.expressions.values.types.grammar.alloc)?)
+        parsed(DebuggerStmt { span }.into_tree(self.expressions.values.types.grammar.alloc))
     }
 
     // `if (a) b`, from its word to what stands before `else`.
@@ -240,7 +240,7 @@ impl<F: Fn(Global, &mut Tokens<'_>, usize, Rule) -> Result<Tree, ParseError>> St
             .grammar
             .again(tokens, Rule::Statement)?;
         let span = tokens.at.from(start);
-        Ok(WithStmt { span, obj, body }.into_tree(self.expressions.values.types.grammar.alloc)?)
+        parsed(WithStmt { span, obj, body }.into_tree(self.expressions.values.types.grammar.alloc))
     }
 
     fn switch(&self, tokens: &mut Tokens<'_>) -> Result<Tree, ParseError>
@@ -263,7 +263,7 @@ impl<F: Fn(Global, &mut Tokens<'_>, usize, Rule) -> Result<Tree, ParseError>> St
             discriminant,
             cases: Tree::list(cases),
         };
-        Ok(made.into_tree(self.expressions.values.types.grammar.alloc)?)
+        parsed(made.into_tree(self.expressions.values.types.grammar.alloc))
     }
 
     fn case(&self, tokens: &mut Tokens<'_>) -> Result<Tree, ParseError>
@@ -302,7 +302,7 @@ impl<F: Fn(Global, &mut Tokens<'_>, usize, Rule) -> Result<Tree, ParseError>> St
             test,
             cons: Tree::list(cons),
         };
-        Ok(made.into_tree(self.expressions.values.types.grammar.alloc)?)
+        parsed(made.into_tree(self.expressions.values.types.grammar.alloc))
     }
 
     fn attempt(&self, tokens: &mut Tokens<'_>) -> Result<Tree, ParseError>
@@ -332,7 +332,7 @@ impl<F: Fn(Global, &mut Tokens<'_>, usize, Rule) -> Result<Tree, ParseError>> St
             handler,
             finalizer,
         };
-        Ok(made.into_tree(self.expressions.values.types.grammar.alloc)?)
+        parsed(made.into_tree(self.expressions.values.types.grammar.alloc))
     }
 
     // `catch (a) {}`
@@ -350,8 +350,8 @@ impl<F: Fn(Global, &mut Tokens<'_>, usize, Rule) -> Result<Tree, ParseError>> St
         };
         let body = self.block(tokens)?;
         let span = tokens.at.from(start);
-        Ok(CatchClause { span, param, body }.into_tree(
+        parsed(CatchClause { span, param, body }.into_tree(
             self.expressions.values.types.grammar.alloc,
-        )?)
+        ))
     }
 }

@@ -2,7 +2,7 @@
 ghost use Rattle.fast_check_source_grammar.specs.Nests.{Nests};
 
 use crate::statements::{Opening, Statements, is_await_using, is_using};
-use fast_check_source_grammar::{Cursor, Note, ParseError, Rule, Tokens, Within};
+use fast_check_source_grammar::{Cursor, Note, ParseError, Rule, Tokens, Within, parsed};
 use fast_check_source_lexer::{Keyword, TokenKind};
 use fast_check_tree_forms_statements::{DoWhileStmt, ForInStmt, ForOfStmt, ForStmt, WhileStmt};
 use fast_check_tree_syntax::{SourcePos, Tree};
@@ -38,7 +38,9 @@ impl<F: Fn(Global, &mut Tokens<'_>, usize, Rule) -> Result<Tree, ParseError>> St
             .grammar
             .again(tokens, Rule::Statement)?;
         let span = tokens.at.from(start);
-        Ok(WhileStmt { span, test, body }.into_tree(self.expressions.values.types.grammar.alloc)?)
+        parsed(WhileStmt { span, test, body }.into_tree(
+            self.expressions.values.types.grammar.alloc,
+        ))
     }
 
     pub fn do_loop(&self, tokens: &mut Tokens<'_>) -> Result<Tree, ParseError>
@@ -56,7 +58,9 @@ impl<F: Fn(Global, &mut Tokens<'_>, usize, Rule) -> Result<Tree, ParseError>> St
         let test = self.in_parens(tokens)?;
         let _ = tokens.at.eat(TokenKind::Semicolon);
         let span = tokens.at.from(start);
-        Ok(DoWhileStmt { span, test, body }.into_tree(self.expressions.values.types.grammar.alloc)?)
+        parsed(DoWhileStmt { span, test, body }.into_tree(
+            self.expressions.values.types.grammar.alloc,
+        ))
     }
 
     // What a `for` declares, or its first expression.
@@ -183,7 +187,7 @@ impl<F: Fn(Global, &mut Tokens<'_>, usize, Rule) -> Result<Tree, ParseError>> St
             }
             .into_tree(alloc)
         };
-        Ok(made?)
+        parsed(made)
     }
 
     // `; a; b) c`
@@ -229,6 +233,6 @@ impl<F: Fn(Global, &mut Tokens<'_>, usize, Rule) -> Result<Tree, ParseError>> St
             update,
             body,
         };
-        Ok(made.into_tree(self.expressions.values.types.grammar.alloc)?)
+        parsed(made.into_tree(self.expressions.values.types.grammar.alloc))
     }
 }

@@ -3,7 +3,9 @@ ghost use Rattle.fast_check_source_grammar.specs.Nests.{Nests};
 
 use crate::modifiers::{Modifiers, member_modifiers, method_kind, param_modifiers};
 use crate::statements::Statements;
-use fast_check_source_grammar::{Cursor, ParseError, Rule, Tokens, ident_name, private_name};
+use fast_check_source_grammar::{
+    Cursor, ParseError, Rule, Tokens, ident_name, parsed, private_name,
+};
 use fast_check_source_lexer::{Keyword, TokenKind};
 use fast_check_source_types::sees_index;
 use fast_check_source_values::{Marks, enter_function};
@@ -65,7 +67,7 @@ fn private_prop(
         readonly: marks.readonly,
         definite,
     };
-    Ok(made.into_tree(alloc)?)
+    parsed(made.into_tree(alloc))
 }
 
 fn class_prop(
@@ -99,7 +101,7 @@ fn class_prop(
         declare: marks.declare,
         definite,
     };
-    Ok(made.into_tree(alloc)?)
+    parsed(made.into_tree(alloc))
 }
 
 fn auto_accessor(
@@ -129,7 +131,7 @@ fn auto_accessor(
         is_override: marks.is_override,
         definite,
     };
-    Ok(made.into_tree(alloc)?)
+    parsed(made.into_tree(alloc))
 }
 
 impl<F: Fn(Global, &mut Tokens<'_>, usize, Rule) -> Result<Tree, ParseError>> Statements<F> {
@@ -197,7 +199,7 @@ impl<F: Fn(Global, &mut Tokens<'_>, usize, Rule) -> Result<Tree, ParseError>> St
             .again(tokens, Rule::Body)?;
         let _ = tokens.at.enter(outer);
         let span = tokens.at.from(start);
-        Ok(StaticBlock { span, body }.into_tree(self.expressions.values.types.grammar.alloc)?)
+        parsed(StaticBlock { span, body }.into_tree(self.expressions.values.types.grammar.alloc))
     }
 
     fn method(
@@ -255,7 +257,7 @@ impl<F: Fn(Global, &mut Tokens<'_>, usize, Rule) -> Result<Tree, ParseError>> St
             }
             .into_tree(alloc)
         };
-        Ok(made?)
+        parsed(made)
     }
 
     fn field(&self, tokens: &mut Tokens<'_>, member: Member) -> Result<Tree, ParseError>
@@ -325,7 +327,7 @@ impl<F: Fn(Global, &mut Tokens<'_>, usize, Rule) -> Result<Tree, ParseError>> St
             accessibility: marks.accessibility(),
             is_optional: false,
         };
-        Ok(made.into_tree(alloc)?)
+        parsed(made.into_tree(alloc))
     }
 
     /// A parameter of a constructor, which may be a property too.
@@ -356,6 +358,6 @@ impl<F: Fn(Global, &mut Tokens<'_>, usize, Rule) -> Result<Tree, ParseError>> St
             }
             .into_tree(alloc)
         };
-        Ok(made?)
+        parsed(made)
     }
 }

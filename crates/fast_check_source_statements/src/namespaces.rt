@@ -2,7 +2,7 @@
 ghost use Rattle.fast_check_source_grammar.specs.Nests.{Nests};
 
 use crate::statements::{Opening, Statements};
-use fast_check_source_grammar::{ParseError, Rule, Tokens, ident, string, word_ident};
+use fast_check_source_grammar::{ParseError, Rule, Tokens, ident, parsed, string, word_ident};
 use fast_check_source_lexer::{Keyword, TokenKind};
 use fast_check_tree_forms_statements::{TsModuleBlock, TsModuleDecl, TsNamespaceDecl};
 use fast_check_tree_syntax::{SourcePos, Tree};
@@ -23,7 +23,7 @@ impl<F: Fn(Global, &mut Tokens<'_>, usize, Rule) -> Result<Tree, ParseError>> St
         tokens.at.expect(TokenKind::LBrace)?;
         let body = self.up_to_brace(tokens, Rule::Item)?;
         let span = tokens.at.from(start);
-        Ok(TsModuleBlock { span, body }.into_tree(self.expressions.values.types.grammar.alloc)?)
+        parsed(TsModuleBlock { span, body }.into_tree(self.expressions.values.types.grammar.alloc))
     }
 
     // `.b.c { .. }`, `{ .. }`, or nothing where that may be, behind the name of a namespace.
@@ -85,6 +85,6 @@ impl<F: Fn(Global, &mut Tokens<'_>, usize, Rule) -> Result<Tree, ParseError>> St
             body: self.namespace_body(tokens, may_end)?,
             span: tokens.at.from(opening.start),
         };
-        Ok(made.into_tree(alloc)?)
+        parsed(made.into_tree(alloc))
     }
 }

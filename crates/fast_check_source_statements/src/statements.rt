@@ -2,7 +2,7 @@
 ghost use Rattle.fast_check_source_grammar.specs.Nests.{Nests};
 
 use fast_check_source_expressions::Expressions;
-use fast_check_source_grammar::{Cursor, ParseError, Rule, Tokens, is_reserved};
+use fast_check_source_grammar::{Cursor, ParseError, Rule, Tokens, is_reserved, parsed};
 use fast_check_source_imports::import;
 use fast_check_source_lexer::{Keyword, TokenKind};
 use fast_check_tree_forms_statements::{BlockStmt, EmptyStmt};
@@ -181,13 +181,13 @@ impl<F: Fn(Global, &mut Tokens<'_>, usize, Rule) -> Result<Tree, ParseError>> St
             ctxt: SyntaxContext(0),
             stmts,
         };
-        Ok(made.into_tree(self.expressions.values.types.grammar.alloc)?)
+        parsed(made.into_tree(self.expressions.values.types.grammar.alloc))
     }
 
     /// A lone `;`.
     pub fn empty(&self, tokens: &mut Tokens<'_>) -> Result<Tree, ParseError> {
         let span = tokens.at.here();
         tokens.at.advance();
-        Ok(EmptyStmt { span }.into_tree(self.expressions.values.types.grammar.alloc)?)
+        parsed(EmptyStmt { span }.into_tree(self.expressions.values.types.grammar.alloc))
     }
 }

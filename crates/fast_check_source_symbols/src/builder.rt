@@ -8,14 +8,14 @@ use std::alloc::{AllocError, Global};
 use std::collections::BTreeMap;
 
 /// The number of a symbol, by its place among them.
-#[derive(Clone, Copy, PartialEq, Eq, Debug)]
+#[derive(Clone, Copy, PartialEq, Eq)]
 pub struct SymbolNo(pub usize);
 
 /// The symbol of the module itself.
 pub const MODULE: SymbolNo = SymbolNo(0);
 
 /// As what a declaration binds its name.
-#[derive(Clone, Copy, PartialEq, Eq, Debug)]
+#[derive(Clone, Copy, PartialEq, Eq)]
 pub enum Binds {
     Value,
     Type,

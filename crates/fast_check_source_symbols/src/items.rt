@@ -50,7 +50,7 @@ pub fn is_declaration(item: Part<'_>) -> bool {
 }
 
 /// What a part is looked at as.
-#[derive(Clone, Copy, PartialEq, Eq, Debug)]
+#[derive(Clone, Copy, PartialEq, Eq)]
 pub enum Way {
     /// The body of a namespace.
     Body,

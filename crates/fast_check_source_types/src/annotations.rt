@@ -3,7 +3,9 @@ ghost use Rattle.fast_check_source_grammar.specs.Nests.{Nests};
 
 use crate::look_ahead::is_before_is;
 use crate::types::{Types, set_plain};
-use fast_check_source_grammar::{Note, ParseError, Rule, Tokens, ident, sees_ident, word_ident};
+use fast_check_source_grammar::{
+    Note, ParseError, Rule, Tokens, ident, parsed, sees_ident, word_ident,
+};
 use fast_check_source_lexer::{Keyword, TokenKind};
 use fast_check_tree_forms_types::{
     TsThisType, TsTypeAnn, TsTypeParam, TsTypeParamDecl, TsTypeParamInstantiation, TsTypePredicate,
@@ -22,7 +24,7 @@ impl<F: Fn(Global, &mut Tokens<'_>, usize, Rule) -> Result<Tree, ParseError>> Ty
         }
         let type_ann = self.grammar.again(tokens, Rule::Type)?;
         let span = tokens.at.from(start);
-        Ok(TsTypeAnn { span, type_ann }.into_tree(self.grammar.alloc)?)
+        parsed(TsTypeAnn { span, type_ann }.into_tree(self.grammar.alloc))
     }
 
     /// `: A` or `: a is A` behind parameters, or nothing.
@@ -49,7 +51,7 @@ impl<F: Fn(Global, &mut Tokens<'_>, usize, Rule) -> Result<Tree, ParseError>> Ty
         };
         let _ = set_plain(tokens, outer);
         let span = tokens.at.from(start);
-        Ok(TsTypeAnn { span, type_ann }.into_tree(self.grammar.alloc)?)
+        parsed(TsTypeAnn { span, type_ann }.into_tree(self.grammar.alloc))
     }
 
     /// `a is A`, or what stands behind `asserts`.
@@ -84,7 +86,7 @@ impl<F: Fn(Global, &mut Tokens<'_>, usize, Rule) -> Result<Tree, ParseError>> Ty
             param_name,
             type_ann,
         };
-        Ok(made.into_tree(self.grammar.alloc)?)
+        parsed(made.into_tree(self.grammar.alloc))
     }
 
     /// `<A, B>` as arguments, or nothing.
@@ -103,7 +105,7 @@ impl<F: Fn(Global, &mut Tokens<'_>, usize, Rule) -> Result<Tree, ParseError>> Ty
         {
             Ok(params) => {
                 let span = tokens.at.from(start);
-                Ok(TsTypeParamInstantiation { span, params }.into_tree(self.grammar.alloc)?)
+                parsed(TsTypeParamInstantiation { span, params }.into_tree(self.grammar.alloc))
             }
             Err(error) => {
                 tokens.note(Note::NoArgs, place)?;
@@ -127,7 +129,7 @@ impl<F: Fn(Global, &mut Tokens<'_>, usize, Rule) -> Result<Tree, ParseError>> Ty
             TokenKind::Greater,
         )?;
         let span = tokens.at.from(start);
-        Ok(TsTypeParamDecl { span, params }.into_tree(self.grammar.alloc)?)
+        parsed(TsTypeParamDecl { span, params }.into_tree(self.grammar.alloc))
     }
 
     /// `const in out A extends B = C`
@@ -164,6 +166,6 @@ impl<F: Fn(Global, &mut Tokens<'_>, usize, Rule) -> Result<Tree, ParseError>> Ty
             constraint,
             default,
         };
-        Ok(made.into_tree(self.grammar.alloc)?)
+        parsed(made.into_tree(self.grammar.alloc))
     }
 }

@@ -2,16 +2,29 @@
 use fast_check_source_grammar::{Cursor, Tokens, is_reserved};
 use fast_check_source_lexer::{Keyword, TokenKind};
 
-// The place past brackets that are open, for a look ahead.
+// The place past brackets that are open, for a look ahead. The last bits of `templates` say of the innermost 64 which ones are a `${`.
 fn past_brackets<'a>(tokens: Cursor<'a>) -> Cursor<'a> {
     let mut ahead = tokens;
     let mut depth: usize = 0;
+    let mut templates: u64 = 0;
     for _turn in 0..tokens.left() {
+        if ahead.is(TokenKind::RBrace) && templates & 1 == 1 {
+            ahead.rescan_template();
+        }
         match ahead.kind() {
-            TokenKind::LBrace | TokenKind::LBracket | TokenKind::LParen => depth =
-                depth.saturating_add(1),
-            TokenKind::RBrace | TokenKind::RBracket | TokenKind::RParen => depth =
-                depth.saturating_sub(1),
+            TokenKind::LBrace | TokenKind::LBracket | TokenKind::LParen => {
+                depth = depth.saturating_add(1);
+                templates = templates << 1;
+            }
+            TokenKind::TemplateHead => {
+                depth = depth.saturating_add(1);
+                templates = templates << 1 | 1;
+            }
+            TokenKind::RBrace | TokenKind::RBracket | TokenKind::RParen | TokenKind::TemplateTail =>
+                {
+                    depth = depth.saturating_sub(1);
+                    templates = templates >> 1;
+                }
             TokenKind::End => break,
             _ => {}
         }

@@ -2,7 +2,7 @@
 ghost use Rattle.fast_check_source_grammar.specs.Nests.{Nests};
 
 use crate::types::Types;
-use fast_check_source_grammar::{ParseError, Rule, Tokens, word_ident};
+use fast_check_source_grammar::{ParseError, Rule, Tokens, parsed, word_ident};
 use fast_check_source_lexer::{Keyword, TokenKind};
 use fast_check_tree_forms_types::{TsMappedType, TsTypeParam};
 use fast_check_tree_syntax::{Atom, Tree};
@@ -69,7 +69,7 @@ impl<F: Fn(Global, &mut Tokens<'_>, usize, Rule) -> Result<Tree, ParseError>> Ty
             optional,
             type_ann,
         };
-        Ok(made.into_tree(self.grammar.alloc)?)
+        parsed(made.into_tree(self.grammar.alloc))
     }
 
     // `A in B`
@@ -88,6 +88,6 @@ impl<F: Fn(Global, &mut Tokens<'_>, usize, Rule) -> Result<Tree, ParseError>> Ty
             default: Tree::Absent,
             span: tokens.at.from(start),
         };
-        Ok(made.into_tree(self.grammar.alloc)?)
+        parsed(made.into_tree(self.grammar.alloc))
     }
 }

@@ -3,7 +3,7 @@ ghost use Rattle.fast_check_source_grammar.specs.Nests.{Nests};
 
 use crate::look_ahead::{can_follow_modifier, sees_accessor, sees_index};
 use crate::types::Types;
-use fast_check_source_grammar::{ParseError, Rule, Tokens, literal_key};
+use fast_check_source_grammar::{ParseError, Rule, Tokens, literal_key, parsed};
 use fast_check_source_lexer::{Keyword, TokenKind};
 use fast_check_tree_forms_classes::TsIndexSignature;
 use fast_check_tree_forms_programs::{BindingIdent, Ident};
@@ -130,7 +130,7 @@ impl<F: Fn(Global, &mut Tokens<'_>, usize, Rule) -> Result<Tree, ParseError>> Ty
             type_ann,
             type_params,
         };
-        Ok(made.into_tree(self.grammar.alloc)?)
+        parsed(made.into_tree(self.grammar.alloc))
     }
 
     fn construct_signature(
@@ -150,7 +150,7 @@ impl<F: Fn(Global, &mut Tokens<'_>, usize, Rule) -> Result<Tree, ParseError>> Ty
             type_ann,
             type_params,
         };
-        Ok(made.into_tree(self.grammar.alloc)?)
+        parsed(made.into_tree(self.grammar.alloc))
     }
 
     // `key: A`, whose name's range takes in the type.
@@ -171,7 +171,7 @@ impl<F: Fn(Global, &mut Tokens<'_>, usize, Rule) -> Result<Tree, ParseError>> Ty
             id: id.into_tree(self.grammar.alloc)?,
             type_ann,
         };
-        Ok(made.into_tree(self.grammar.alloc)?)
+        parsed(made.into_tree(self.grammar.alloc))
     }
 
     /// `[key: A]: B`
@@ -197,7 +197,7 @@ impl<F: Fn(Global, &mut Tokens<'_>, usize, Rule) -> Result<Tree, ParseError>> Ty
             readonly,
             is_static,
         };
-        Ok(made.into_tree(self.grammar.alloc)?)
+        parsed(made.into_tree(self.grammar.alloc))
     }
 
     fn key(&self, tokens: &mut Tokens<'_>) -> Result<Key, ParseError>
@@ -231,7 +231,7 @@ impl<F: Fn(Global, &mut Tokens<'_>, usize, Rule) -> Result<Tree, ParseError>> Ty
             computed,
             type_ann,
         };
-        Ok(made.into_tree(self.grammar.alloc)?)
+        parsed(made.into_tree(self.grammar.alloc))
     }
 
     fn setter(&self, tokens: &mut Tokens<'_>, start: SourcePos) -> Result<Tree, ParseError>
@@ -247,7 +247,7 @@ impl<F: Fn(Global, &mut Tokens<'_>, usize, Rule) -> Result<Tree, ParseError>> Ty
             computed,
             params,
         };
-        Ok(made.into_tree(self.grammar.alloc)?)
+        parsed(made.into_tree(self.grammar.alloc))
     }
 
     fn method(
@@ -273,7 +273,7 @@ impl<F: Fn(Global, &mut Tokens<'_>, usize, Rule) -> Result<Tree, ParseError>> Ty
             type_ann,
             type_params,
         };
-        Ok(made.into_tree(self.grammar.alloc)?)
+        parsed(made.into_tree(self.grammar.alloc))
     }
 
     fn property(
@@ -297,6 +297,6 @@ impl<F: Fn(Global, &mut Tokens<'_>, usize, Rule) -> Result<Tree, ParseError>> Ty
             optional,
             type_ann,
         };
-        Ok(made.into_tree(self.grammar.alloc)?)
+        parsed(made.into_tree(self.grammar.alloc))
     }
 }

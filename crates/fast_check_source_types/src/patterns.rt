@@ -3,7 +3,7 @@ ghost use Rattle.fast_check_source_grammar.specs.Nests.{Nests};
 
 use crate::types::Types;
 use fast_check_source_grammar::{
-    ParseError, Rule, Tokens, binding, ident, ident_name, number, sees_ident, string,
+    ParseError, Rule, Tokens, binding, ident, ident_name, number, parsed, sees_ident, string,
 };
 use fast_check_source_lexer::{Keyword, TokenKind};
 use fast_check_tree_forms_expressions::{
@@ -27,7 +27,7 @@ fn optional_ident(alloc: Global, tokens: &mut Tokens<'_>) -> Result<Tree, ParseE
         sym,
         optional: tokens.at.eat(TokenKind::Question),
     };
-    Ok(made.into_tree(alloc)?)
+    parsed(made.into_tree(alloc))
 }
 
 impl<F: Fn(Global, &mut Tokens<'_>, usize, Rule) -> Result<Tree, ParseError>> Types<F> {
@@ -75,7 +75,7 @@ impl<F: Fn(Global, &mut Tokens<'_>, usize, Rule) -> Result<Tree, ParseError>> Ty
         }
         let right = self.grammar.again(tokens, Rule::Assigned)?;
         let span = tokens.at.from(start);
-        Ok(AssignPat { span, left, right }.into_tree(self.grammar.alloc)?)
+        parsed(AssignPat { span, left, right }.into_tree(self.grammar.alloc))
     }
 
     // `...a`, with its type where it may have one.
@@ -97,7 +97,7 @@ impl<F: Fn(Global, &mut Tokens<'_>, usize, Rule) -> Result<Tree, ParseError>> Ty
             arg,
             type_ann,
         };
-        Ok(made.into_tree(self.grammar.alloc)?)
+        parsed(made.into_tree(self.grammar.alloc))
     }
 
     // A name or a pattern without its type.
@@ -197,7 +197,7 @@ impl<F: Fn(Global, &mut Tokens<'_>, usize, Rule) -> Result<Tree, ParseError>> Ty
             }
             .into_tree(self.grammar.alloc)
         };
-        Ok(made?)
+        parsed(made)
     }
 
     /// An element of an array pattern, which may be missing.
@@ -224,7 +224,7 @@ impl<F: Fn(Global, &mut Tokens<'_>, usize, Rule) -> Result<Tree, ParseError>> Ty
         let key = self.prop_name(tokens)?;
         tokens.at.expect(TokenKind::Colon)?;
         let value = self.pattern(tokens)?;
-        Ok(KeyValuePatProp { key, value }.into_tree(self.grammar.alloc)?)
+        parsed(KeyValuePatProp { key, value }.into_tree(self.grammar.alloc))
     }
 
     fn short_property(&self, tokens: &mut Tokens<'_>) -> Result<Tree, ParseError>
@@ -238,7 +238,7 @@ impl<F: Fn(Global, &mut Tokens<'_>, usize, Rule) -> Result<Tree, ParseError>> Ty
             Tree::Absent
         };
         let span = tokens.at.from(start);
-        Ok(AssignPatProp { span, key, value }.into_tree(self.grammar.alloc)?)
+        parsed(AssignPatProp { span, key, value }.into_tree(self.grammar.alloc))
     }
 
     /// The key of a property: a word, a string, a number or an expression in brackets.
@@ -261,6 +261,6 @@ impl<F: Fn(Global, &mut Tokens<'_>, usize, Rule) -> Result<Tree, ParseError>> Ty
         let expr = self.grammar.again(tokens, Rule::Expression)?;
         tokens.at.expect(TokenKind::RBracket)?;
         let span = tokens.at.from(start);
-        Ok(ComputedPropName { span, expr }.into_tree(self.grammar.alloc)?)
+        parsed(ComputedPropName { span, expr }.into_tree(self.grammar.alloc))
     }
 }

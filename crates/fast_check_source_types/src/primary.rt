@@ -4,7 +4,7 @@ ghost use Rattle.fast_check_source_grammar.specs.Nests.{Nests};
 use crate::look_ahead::{is_before_is, sees_assertion, sees_label, sees_mapped};
 use crate::types::Types;
 use fast_check_source_grammar::{
-    ParseError, Rule, Tokens, bool_literal, entity, quasi, signed_number, string,
+    ParseError, Rule, Tokens, bool_literal, entity, parsed, quasi, signed_number, string,
 };
 use fast_check_source_lexer::{Keyword, TokenKind};
 use fast_check_tree_forms_expressions::RestPat;
@@ -38,7 +38,7 @@ fn keyword_type(alloc: Global, tokens: &mut Tokens<'_>, form: Form) -> Result<Tr
     let span = tokens.at.here();
     tokens.at.advance();
     let kind = Tree::Word(form);
-    Ok(TsKeywordType { span, kind }.into_tree(alloc)?)
+    parsed(TsKeywordType { span, kind }.into_tree(alloc))
 }
 
 // The label of an element of a tuple: `a`, `a?` or `...a`.
@@ -72,7 +72,7 @@ fn label(
         arg,
         type_ann: Tree::Absent,
     };
-    Ok(made.into_tree(alloc)?)
+    parsed(made.into_tree(alloc))
 }
 
 impl<F: Fn(Global, &mut Tokens<'_>, usize, Rule) -> Result<Tree, ParseError>> Types<F> {
@@ -100,7 +100,7 @@ impl<F: Fn(Global, &mut Tokens<'_>, usize, Rule) -> Result<Tree, ParseError>> Ty
             _ => signed_number(self.grammar.alloc, tokens)?,
         };
         let span = tokens.at.from(start);
-        Ok(TsLitType { span, lit }.into_tree(self.grammar.alloc)?)
+        parsed(TsLitType { span, lit }.into_tree(self.grammar.alloc))
     }
 
     fn parenthesized(&self, tokens: &mut Tokens<'_>) -> Result<Tree, ParseError>
@@ -111,7 +111,7 @@ impl<F: Fn(Global, &mut Tokens<'_>, usize, Rule) -> Result<Tree, ParseError>> Ty
         let type_ann = self.grammar.again(tokens, Rule::Type)?;
         tokens.at.expect(TokenKind::RParen)?;
         let span = tokens.at.from(start);
-        Ok(TsParenthesizedType { span, type_ann }.into_tree(self.grammar.alloc)?)
+        parsed(TsParenthesizedType { span, type_ann }.into_tree(self.grammar.alloc))
     }
 
     fn type_literal(&self, tokens: &mut Tokens<'_>) -> Result<Tree, ParseError>
@@ -120,7 +120,7 @@ impl<F: Fn(Global, &mut Tokens<'_>, usize, Rule) -> Result<Tree, ParseError>> Ty
         let start = tokens.at.start();
         let members = self.members(tokens)?;
         let span = tokens.at.from(start);
-        Ok(TsTypeLit { span, members }.into_tree(self.grammar.alloc)?)
+        parsed(TsTypeLit { span, members }.into_tree(self.grammar.alloc))
     }
 
     fn tuple(&self, tokens: &mut Tokens<'_>) -> Result<Tree, ParseError>
@@ -135,7 +135,7 @@ impl<F: Fn(Global, &mut Tokens<'_>, usize, Rule) -> Result<Tree, ParseError>> Ty
             TokenKind::RBracket,
         )?;
         let span = tokens.at.from(start);
-        Ok(TsTupleType { span, elem_types }.into_tree(self.grammar.alloc)?)
+        parsed(TsTupleType { span, elem_types }.into_tree(self.grammar.alloc))
     }
 
     /// An element of a tuple, with its label.
@@ -160,7 +160,7 @@ impl<F: Fn(Global, &mut Tokens<'_>, usize, Rule) -> Result<Tree, ParseError>> Ty
             label: Tree::Absent,
             ty,
         };
-        Ok(made.into_tree(self.grammar.alloc)?)
+        parsed(made.into_tree(self.grammar.alloc))
     }
 
     // `a: A`, `a?: A` or `...a: A`
@@ -184,7 +184,7 @@ impl<F: Fn(Global, &mut Tokens<'_>, usize, Rule) -> Result<Tree, ParseError>> Ty
             ty: self.grammar.again(tokens, Rule::Type)?,
             span: tokens.at.from(start),
         };
-        Ok(made.into_tree(self.grammar.alloc)?)
+        parsed(made.into_tree(self.grammar.alloc))
     }
 
     fn template(&self, tokens: &mut Tokens<'_>) -> Result<Tree, ParseError>
@@ -199,7 +199,7 @@ impl<F: Fn(Global, &mut Tokens<'_>, usize, Rule) -> Result<Tree, ParseError>> Ty
             quasis,
         };
         let lit = lit.into_tree(self.grammar.alloc)?;
-        Ok(TsLitType { span, lit }.into_tree(self.grammar.alloc)?)
+        parsed(TsLitType { span, lit }.into_tree(self.grammar.alloc))
     }
 
     /// The parts of a template by a rule, and the texts around them.
@@ -256,7 +256,7 @@ impl<F: Fn(Global, &mut Tokens<'_>, usize, Rule) -> Result<Tree, ParseError>> Ty
                 let made = TsThisType {
                     span: tokens.at.from(start),
                 };
-                Ok(made.into_tree(self.grammar.alloc)?)
+                parsed(made.into_tree(self.grammar.alloc))
             }
             Keyword::Typeof => self.query(tokens),
             Keyword::Import => self.import_type(tokens),
@@ -309,7 +309,7 @@ impl<F: Fn(Global, &mut Tokens<'_>, usize, Rule) -> Result<Tree, ParseError>> Ty
             type_args: self.args_in_line(tokens)?,
             span: tokens.at.from(start),
         };
-        Ok(made.into_tree(self.grammar.alloc)?)
+        parsed(made.into_tree(self.grammar.alloc))
     }
 
     // `typeof a.b<c>` or `typeof import("a")`
@@ -334,7 +334,7 @@ impl<F: Fn(Global, &mut Tokens<'_>, usize, Rule) -> Result<Tree, ParseError>> Ty
             expr_name,
             type_args,
         };
-        Ok(made.into_tree(self.grammar.alloc)?)
+        parsed(made.into_tree(self.grammar.alloc))
     }
 
     fn reference(&self, tokens: &mut Tokens<'_>) -> Result<Tree, ParseError>
@@ -346,6 +346,6 @@ impl<F: Fn(Global, &mut Tokens<'_>, usize, Rule) -> Result<Tree, ParseError>> Ty
             type_params: self.args_in_line(tokens)?,
             span: tokens.at.from(start),
         };
-        Ok(made.into_tree(self.grammar.alloc)?)
+        parsed(made.into_tree(self.grammar.alloc))
     }
 }

@@ -2,7 +2,7 @@
 ghost use Rattle.fast_check_source_grammar.specs.Nests.{Nests};
 
 use crate::look_ahead::sees_function;
-use fast_check_source_grammar::{Grammar, Note, ParseError, Rule, Tokens, Within, ident};
+use fast_check_source_grammar::{Grammar, Note, ParseError, Rule, Tokens, Within, ident, parsed};
 use fast_check_source_lexer::{Keyword, TokenKind};
 use fast_check_tree_forms_types::{
     TsArrayType, TsConditionalType, TsConstructorType, TsFnType, TsIndexedAccessType, TsInferType,
@@ -80,7 +80,7 @@ impl<F: Fn(Global, &mut Tokens<'_>, usize, Rule) -> Result<Tree, ParseError>> Ty
             true_type,
             false_type,
         };
-        Ok(made.into_tree(self.grammar.alloc)?)
+        parsed(made.into_tree(self.grammar.alloc))
     }
 
     // `(a: A) => B` or `new (a: A) => B`
@@ -115,7 +115,7 @@ impl<F: Fn(Global, &mut Tokens<'_>, usize, Rule) -> Result<Tree, ParseError>> Ty
             }
             .into_tree(self.grammar.alloc)
         };
-        Ok(made?)
+        parsed(made)
     }
 
     fn union(&self, tokens: &mut Tokens<'_>) -> Result<Tree, ParseError>
@@ -139,7 +139,7 @@ impl<F: Fn(Global, &mut Tokens<'_>, usize, Rule) -> Result<Tree, ParseError>> Ty
             span: tokens.at.from(start),
             types: Tree::list(types),
         };
-        Ok(made.into_tree(self.grammar.alloc)?)
+        parsed(made.into_tree(self.grammar.alloc))
     }
 
     fn intersection(&self, tokens: &mut Tokens<'_>) -> Result<Tree, ParseError>
@@ -163,7 +163,7 @@ impl<F: Fn(Global, &mut Tokens<'_>, usize, Rule) -> Result<Tree, ParseError>> Ty
             span: tokens.at.from(start),
             types: Tree::list(types),
         };
-        Ok(made.into_tree(self.grammar.alloc)?)
+        parsed(made.into_tree(self.grammar.alloc))
     }
 
     /// `keyof A`, `infer A`, or a type with brackets behind it.
@@ -178,7 +178,7 @@ impl<F: Fn(Global, &mut Tokens<'_>, usize, Rule) -> Result<Tree, ParseError>> Ty
                 type_ann: self.grammar.again(tokens, Rule::Operated)?,
                 span: tokens.at.from(start),
             };
-            return Ok(made.into_tree(self.grammar.alloc)?);
+            return parsed(made.into_tree(self.grammar.alloc));
         }
         if tokens.at.is_word(Keyword::Infer) {
             return self.inferred(tokens);
@@ -211,7 +211,7 @@ impl<F: Fn(Global, &mut Tokens<'_>, usize, Rule) -> Result<Tree, ParseError>> Ty
             type_param: param.into_tree(self.grammar.alloc)?,
             span: tokens.at.from(start),
         };
-        Ok(made.into_tree(self.grammar.alloc)?)
+        parsed(made.into_tree(self.grammar.alloc))
     }
 
     // `extends B` behind `infer A`, unless a `?` behind it makes it a part of a conditional type.
@@ -265,7 +265,7 @@ impl<F: Fn(Global, &mut Tokens<'_>, usize, Rule) -> Result<Tree, ParseError>> Ty
                 span: tokens.at.from(start),
                 elem_type: found,
             };
-            return Ok(made.into_tree(self.grammar.alloc)?);
+            return parsed(made.into_tree(self.grammar.alloc));
         }
         let index_type = self.grammar.again(tokens, Rule::Type)?;
         tokens.at.expect(TokenKind::RBracket)?;
@@ -275,6 +275,6 @@ impl<F: Fn(Global, &mut Tokens<'_>, usize, Rule) -> Result<Tree, ParseError>> Ty
             obj_type: found,
             index_type,
         };
-        Ok(made.into_tree(self.grammar.alloc)?)
+        parsed(made.into_tree(self.grammar.alloc))
     }
 }

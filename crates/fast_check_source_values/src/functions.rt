@@ -2,7 +2,7 @@
 ghost use Rattle.fast_check_source_grammar.specs.Nests.{Nests};
 
 use crate::values::Values;
-use fast_check_source_grammar::{ParseError, Rule, Tokens, Within, ident, sees_ident};
+use fast_check_source_grammar::{ParseError, Rule, Tokens, Within, ident, parsed, sees_ident};
 use fast_check_source_lexer::{Keyword, TokenKind};
 use fast_check_tree_forms_classes::{Decorator, Function, Param};
 use fast_check_tree_forms_expressions::FnExpr;
@@ -10,7 +10,7 @@ use fast_check_tree_syntax::{Items, SourcePos, SyntaxContext, Tree};
 use std::alloc::Global;
 
 /// What stands before the name of a function.
-#[derive(Clone, Copy, PartialEq, Eq, Debug)]
+#[derive(Clone, Copy, PartialEq, Eq)]
 pub struct Marks {
     pub is_async: bool,
     pub is_generator: bool,
@@ -60,7 +60,7 @@ impl<F: Fn(Global, &mut Tokens<'_>, usize, Rule) -> Result<Tree, ParseError>> Va
             decorators,
             pat,
         };
-        Ok(made.into_tree(self.types.grammar.alloc)?)
+        parsed(made.into_tree(self.types.grammar.alloc))
     }
 
     /// What stands behind the name of a function: `<A>(b): C {}`. Without a body it ends as a statement.
@@ -99,7 +99,7 @@ impl<F: Fn(Global, &mut Tokens<'_>, usize, Rule) -> Result<Tree, ParseError>> Va
             type_params,
             return_type,
         };
-        Ok(made.into_tree(self.types.grammar.alloc)?)
+        parsed(made.into_tree(self.types.grammar.alloc))
     }
 
     /// A function as a value, or behind `export default`.
@@ -121,6 +121,6 @@ impl<F: Fn(Global, &mut Tokens<'_>, usize, Rule) -> Result<Tree, ParseError>> Va
             is_generator,
         };
         let function = self.function(tokens, start, marks, Tree::list(Items::new(alloc)))?;
-        Ok(FnExpr { ident, function }.into_tree(alloc)?)
+        parsed(FnExpr { ident, function }.into_tree(alloc))
     }
 }

@@ -2,7 +2,7 @@
 ghost use Rattle.fast_check_source_grammar.specs.Nests.{Nests};
 
 use crate::values::Values;
-use fast_check_source_grammar::{ParseError, Rule, Tokens};
+use fast_check_source_grammar::{ParseError, Rule, Tokens, parsed};
 use fast_check_source_lexer::TokenKind;
 use fast_check_tree_forms_expressions::{JSXElement, JSXFragment};
 use fast_check_tree_syntax::{Atom, Tree};
@@ -59,7 +59,7 @@ impl<F: Fn(Global, &mut Tokens<'_>, usize, Rule) -> Result<Tree, ParseError>> Va
         } else {
             JSXElement { span, raw }.into_tree(alloc)
         };
-        Ok(made?)
+        parsed(made)
     }
 
     /// An element within another, with the text behind it. No tree is made of it.

@@ -4,7 +4,7 @@ ghost use Rattle.fast_check_source_grammar.specs.Nests.{Nests};
 use crate::functions::{Marks, enter_function};
 use crate::look_ahead::leads;
 use crate::values::Values;
-use fast_check_source_grammar::{Cursor, ParseError, Rule, Tokens, ident, sees_ident};
+use fast_check_source_grammar::{Cursor, ParseError, Rule, Tokens, ident, parsed, sees_ident};
 use fast_check_source_lexer::{Keyword, TokenKind};
 use fast_check_tree_forms_expressions::{
     AssignProp, GetterProp, KeyValueProp, MethodProp, ObjectLit, SetterProp, SpreadElement,
@@ -52,7 +52,7 @@ impl<F: Fn(Global, &mut Tokens<'_>, usize, Rule) -> Result<Tree, ParseError>> Va
             TokenKind::RBrace,
         )?;
         let span = tokens.at.from(start);
-        Ok(ObjectLit { span, props }.into_tree(self.types.grammar.alloc)?)
+        parsed(ObjectLit { span, props }.into_tree(self.types.grammar.alloc))
     }
 
     /// A property of an object literal.
@@ -88,7 +88,7 @@ impl<F: Fn(Global, &mut Tokens<'_>, usize, Rule) -> Result<Tree, ParseError>> Va
         let dot3_token = tokens.at.here();
         tokens.at.advance();
         let expr = self.types.grammar.again(tokens, Rule::Assigned)?;
-        Ok(SpreadElement { dot3_token, expr }.into_tree(self.types.grammar.alloc)?)
+        parsed(SpreadElement { dot3_token, expr }.into_tree(self.types.grammar.alloc))
     }
 
     // `a` or `a = b`
@@ -103,7 +103,7 @@ impl<F: Fn(Global, &mut Tokens<'_>, usize, Rule) -> Result<Tree, ParseError>> Va
         }
         let value = self.types.grammar.again(tokens, Rule::Assigned)?;
         let span = tokens.at.from(start);
-        Ok(AssignProp { span, key, value }.into_tree(alloc)?)
+        parsed(AssignProp { span, key, value }.into_tree(alloc))
     }
 
     // What stands behind a key: a value, or a function.
@@ -119,14 +119,14 @@ impl<F: Fn(Global, &mut Tokens<'_>, usize, Rule) -> Result<Tree, ParseError>> Va
         let alloc = self.types.grammar.alloc;
         if tokens.at.is(TokenKind::LParen) || tokens.at.is(TokenKind::Less) {
             let function = self.function(tokens, start, marks, Tree::list(Items::new(alloc)))?;
-            return Ok(MethodProp { key, function }.into_tree(alloc)?);
+            return parsed(MethodProp { key, function }.into_tree(alloc));
         }
         if marks.is_async || marks.is_generator {
             return Err(tokens.at.refuse());
         }
         tokens.at.expect(TokenKind::Colon)?;
         let value = self.types.grammar.again(tokens, Rule::Assigned)?;
-        Ok(KeyValueProp { key, value }.into_tree(alloc)?)
+        parsed(KeyValueProp { key, value }.into_tree(alloc))
     }
 
     // `get a() {}` or `set a(b) {}`
@@ -171,6 +171,6 @@ impl<F: Fn(Global, &mut Tokens<'_>, usize, Rule) -> Result<Tree, ParseError>> Va
             }
             .into_tree(alloc)
         };
-        Ok(made?)
+        parsed(made)
     }
 }

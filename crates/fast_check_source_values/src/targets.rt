@@ -2,7 +2,7 @@
 ghost use Rattle.fast_check_source_grammar.specs.Nests.{Nests};
 
 use crate::values::Values;
-use fast_check_source_grammar::{ParseError, Rule, Tokens, ident};
+use fast_check_source_grammar::{ParseError, Rule, Tokens, ident, parsed};
 use fast_check_source_lexer::TokenKind;
 use fast_check_tree_forms_expressions::{
     ArrayPat, AssignPat, AssignPatProp, KeyValuePatProp, ObjectPat, PatExpr, RestPat, TargetPat,
@@ -32,7 +32,7 @@ impl<F: Fn(Global, &mut Tokens<'_>, usize, Rule) -> Result<Tree, ParseError>> Va
         requires { Nests self.now.types.grammar.depth (F.pre self.now.types.grammar.parse) }
     {
         let pat = self.shape(tokens)?;
-        Ok(TargetPat { pat }.into_tree(self.types.grammar.alloc)?)
+        parsed(TargetPat { pat }.into_tree(self.types.grammar.alloc))
     }
 
     fn shape(&self, tokens: &mut Tokens<'_>) -> Result<Tree, ParseError>
@@ -48,7 +48,7 @@ impl<F: Fn(Global, &mut Tokens<'_>, usize, Rule) -> Result<Tree, ParseError>> Va
                 optional: false,
                 type_ann: Tree::Absent,
             };
-            return Ok(made.into_tree(alloc)?);
+            return parsed(made.into_tree(alloc));
         }
         tokens.at.expect(TokenKind::LBrace)?;
         let props = self.types.grammar.list(
@@ -63,7 +63,7 @@ impl<F: Fn(Global, &mut Tokens<'_>, usize, Rule) -> Result<Tree, ParseError>> Va
             optional: false,
             type_ann: Tree::Absent,
         };
-        Ok(made.into_tree(alloc)?)
+        parsed(made.into_tree(alloc))
     }
 
     /// What is assigned to: a pattern, a name or another value.
@@ -83,9 +83,9 @@ impl<F: Fn(Global, &mut Tokens<'_>, usize, Rule) -> Result<Tree, ParseError>> Va
                 id: expr,
                 type_ann: Tree::Absent,
             };
-            return Ok(made.into_tree(alloc)?);
+            return parsed(made.into_tree(alloc));
         }
-        Ok(PatExpr { expr }.into_tree(alloc)?)
+        parsed(PatExpr { expr }.into_tree(alloc))
     }
 
     // A target with a value behind `=` that stands for it.
@@ -99,7 +99,7 @@ impl<F: Fn(Global, &mut Tokens<'_>, usize, Rule) -> Result<Tree, ParseError>> Va
         }
         let right = self.types.grammar.again(tokens, Rule::Assigned)?;
         let span = tokens.at.from(start);
-        Ok(AssignPat { span, left, right }.into_tree(self.types.grammar.alloc)?)
+        parsed(AssignPat { span, left, right }.into_tree(self.types.grammar.alloc))
     }
 
     fn target_rest(&self, tokens: &mut Tokens<'_>) -> Result<Tree, ParseError>
@@ -115,7 +115,7 @@ impl<F: Fn(Global, &mut Tokens<'_>, usize, Rule) -> Result<Tree, ParseError>> Va
             arg,
             type_ann: Tree::Absent,
         };
-        Ok(made.into_tree(self.types.grammar.alloc)?)
+        parsed(made.into_tree(self.types.grammar.alloc))
     }
 
     pub fn target_element(&self, tokens: &mut Tokens<'_>) -> Result<Tree, ParseError>
@@ -140,7 +140,7 @@ impl<F: Fn(Global, &mut Tokens<'_>, usize, Rule) -> Result<Tree, ParseError>> Va
         let key = self.types.prop_name(tokens)?;
         tokens.at.expect(TokenKind::Colon)?;
         let value = self.target_or_default(tokens)?;
-        Ok(KeyValuePatProp { key, value }.into_tree(self.types.grammar.alloc)?)
+        parsed(KeyValuePatProp { key, value }.into_tree(self.types.grammar.alloc))
     }
 
     // `a` or `a = b`
@@ -160,6 +160,6 @@ impl<F: Fn(Global, &mut Tokens<'_>, usize, Rule) -> Result<Tree, ParseError>> Va
             Tree::Absent
         };
         let span = tokens.at.from(start);
-        Ok(AssignPatProp { span, key, value }.into_tree(alloc)?)
+        parsed(AssignPatProp { span, key, value }.into_tree(alloc))
     }
 }

@@ -3,7 +3,7 @@ ghost use Rattle.fast_check_source_grammar.specs.Nests.{Nests};
 
 use crate::look_ahead::follows_args;
 use fast_check_source_grammar::{
-    Note, ParseError, Rule, Tokens, bool_literal, ident, ident_name, number, regex, string,
+    Note, ParseError, Rule, Tokens, bool_literal, ident, ident_name, number, parsed, regex, string,
 };
 use fast_check_source_lexer::{Keyword, TokenKind};
 use fast_check_source_types::Types;
@@ -33,7 +33,7 @@ fn meta(
         span: tokens.at.from(start),
         kind: Atom::from_str(alloc, kind)?,
     };
-    Ok(made.into_tree(alloc)?)
+    parsed(made.into_tree(alloc))
 }
 
 fn import(
@@ -49,7 +49,7 @@ fn import(
         span: tokens.at.from(start),
         phase: Atom::from_str(alloc, phase)?,
     };
-    Ok(made.into_tree(alloc)?)
+    parsed(made.into_tree(alloc))
 }
 
 // `import.meta`, or `import` or `import.defer` as what is called.
@@ -75,13 +75,13 @@ fn imported(alloc: Global, tokens: &mut Tokens<'_>) -> Result<Tree, ParseError> 
 fn this(alloc: Global, tokens: &mut Tokens<'_>) -> Result<Tree, ParseError> {
     let span = tokens.at.here();
     tokens.at.advance();
-    Ok(ThisExpr { span }.into_tree(alloc)?)
+    parsed(ThisExpr { span }.into_tree(alloc))
 }
 
 fn null(alloc: Global, tokens: &mut Tokens<'_>) -> Result<Tree, ParseError> {
     let span = tokens.at.here();
     tokens.at.advance();
-    Ok(Null { span }.into_tree(alloc)?)
+    parsed(Null { span }.into_tree(alloc))
 }
 
 impl<F: Fn(Global, &mut Tokens<'_>, usize, Rule) -> Result<Tree, ParseError>> Values<F> {
@@ -138,7 +138,7 @@ impl<F: Fn(Global, &mut Tokens<'_>, usize, Rule) -> Result<Tree, ParseError>> Va
         let expr = self.types.grammar.again(tokens, Rule::Expression)?;
         tokens.at.expect(TokenKind::RParen)?;
         let span = tokens.at.from(start);
-        Ok(ParenExpr { span, expr }.into_tree(self.types.grammar.alloc)?)
+        parsed(ParenExpr { span, expr }.into_tree(self.types.grammar.alloc))
     }
 
     /// `[a]` behind a value.
@@ -150,7 +150,7 @@ impl<F: Fn(Global, &mut Tokens<'_>, usize, Rule) -> Result<Tree, ParseError>> Va
         let expr = self.types.grammar.again(tokens, Rule::Expression)?;
         tokens.at.expect(TokenKind::RBracket)?;
         let span = tokens.at.from(start);
-        Ok(ComputedPropName { span, expr }.into_tree(self.types.grammar.alloc)?)
+        parsed(ComputedPropName { span, expr }.into_tree(self.types.grammar.alloc))
     }
 
     // `super`, or `super.a` or `super[a]`.
@@ -163,7 +163,7 @@ impl<F: Fn(Global, &mut Tokens<'_>, usize, Rule) -> Result<Tree, ParseError>> Va
         let prop = match tokens.at.kind() {
             TokenKind::LParen => {
                 let span = tokens.at.from(start);
-                return Ok(Super { span }.into_tree(alloc)?);
+                return parsed(Super { span }.into_tree(alloc));
             }
             TokenKind::LBracket => self.computed(tokens)?,
             _ => {
@@ -172,7 +172,7 @@ impl<F: Fn(Global, &mut Tokens<'_>, usize, Rule) -> Result<Tree, ParseError>> Va
             }
         };
         let span = tokens.at.from(start);
-        Ok(SuperPropExpr { span, prop }.into_tree(alloc)?)
+        parsed(SuperPropExpr { span, prop }.into_tree(alloc))
     }
 
     /// Type arguments of a value, if such come next.
@@ -225,7 +225,7 @@ impl<F: Fn(Global, &mut Tokens<'_>, usize, Rule) -> Result<Tree, ParseError>> Va
             args,
             type_args,
         };
-        Ok(made.into_tree(alloc)?)
+        parsed(made.into_tree(alloc))
     }
 
     fn array(&self, tokens: &mut Tokens<'_>) -> Result<Tree, ParseError>
@@ -234,7 +234,7 @@ impl<F: Fn(Global, &mut Tokens<'_>, usize, Rule) -> Result<Tree, ParseError>> Va
         let start = tokens.at.start();
         let elems = self.elements(tokens, Rule::Argument)?;
         let span = tokens.at.from(start);
-        Ok(ArrayLit { span, elems }.into_tree(self.types.grammar.alloc)?)
+        parsed(ArrayLit { span, elems }.into_tree(self.types.grammar.alloc))
     }
 
     /// `[a, , b]` by a rule for each element that is not missing.
@@ -271,6 +271,6 @@ impl<F: Fn(Global, &mut Tokens<'_>, usize, Rule) -> Result<Tree, ParseError>> Va
             exprs,
             quasis,
         };
-        Ok(made.into_tree(self.types.grammar.alloc)?)
+        parsed(made.into_tree(self.types.grammar.alloc))
     }
 }
