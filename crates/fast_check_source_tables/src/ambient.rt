@@ -1,6 +1,6 @@
 //! Declarations of a declaration file, or of an ambient namespace, are exported without a word where no list of exports stands beside them. Since a list
 //! goes from a skeleton, the word is written in here.
-use fast_check_source_symbols::items::{declaration_of, is_declaration, says_exports};
+use crate::items::{declaration_of, is_declaration, says_exports};
 use fast_check_tree_forms_classes::{Class, Function};
 use fast_check_tree_forms_programs::{ExportDecl, Module};
 use fast_check_tree_forms_statements::{

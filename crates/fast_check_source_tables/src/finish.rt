@@ -1,10 +1,8 @@
 //! The finished tables.
 ghost use Rattle.std.specs.Prelude.{◌≡◌, ◌≤◌, IfOk, []};
 
+use crate::builder::{Binds, Declaration, Draft, Flags, MODULE, SymbolNo, Tables, Target};
 use fast_check_source_references::dependencies::{Dependencies, Dependency, Space};
-use fast_check_source_symbols::builder::{
-    Binds, Declaration, Draft, Flags, MODULE, SymbolNo, Tables, Target,
-};
 use fast_check_tables_symbols::{
     ModuleTables, ReferenceNamespace, Symbol, SymbolDecl, SymbolDeclKind, SymbolDecls, SymbolDep,
     SymbolExports, SymbolId, SymbolNode, SymbolNodeDep,

@@ -2,7 +2,12 @@
 #![tactic(auto)]
 
 mod ambient;
+mod builder;
+mod classes;
+mod declarations;
+mod exports;
 mod finish;
+mod items;
 
 pub use ambient::with_exports;
 pub use finish::tables_of;
