@@ -22,6 +22,9 @@ const USUAL: [&str; 7] = [
 
 const NO_ENTRY_POINT: &str = "no-entry-point";
 
+// So many messages have their places, since each is searched for from the start of the configuration.
+const PLACED: usize = 500;
+
 /// The entry points of a package, and what is wrong with what is written.
 #[derive(Drop)]
 pub struct Entries {
@@ -164,7 +167,12 @@ impl<'a> Written<'a> {
     ) -> Result<(), AllocError> {
         let mut text = joined(alloc, "the entry point ", path)?;
         text.push_str(why)?;
-        out.push(self.message(alloc, path, code, text.as_str())?)?;
+        let message = if out.len() < PLACED {
+            self.message(alloc, path, code, text.as_str())?
+        } else {
+            Message::of_file(alloc, self.folder, code, text.as_str())?
+        };
+        out.push(message)?;
         Ok(())
     }
 
