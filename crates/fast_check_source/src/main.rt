@@ -1,6 +1,7 @@
-//! `fast-check-source DIR ..`: reads the packages of each folder, and answers what `fast-check build` answers of them: a skeleton or the diagnostics of each
-//! of their public modules, with what is wrong with their files, the packages, and the files that were read, as a line of JSON. The status is 2 where a package
-//! cannot be read, and else 1 where a module has diagnostics.
+//! `fast-check-source [--text PATH FILE].. DIR ..`: reads the packages of each folder, and answers what `fast-check build` answers of them: a skeleton or the
+//! diagnostics of each of their public modules, with what is wrong with their files, the packages, and the files that were read, as a line of JSON. The status is 2
+//! where a package cannot be read, and else 1 where a module has diagnostics. In all folders behind `--text PATH FILE` the file at the path PATH from the folder has
+//! the text of FILE, where it is there.
 #![tactic(auto)]
 
 ghost use Rattle.std.specs.Prelude.{◌≡◌, ◌≢◌, IsTrue, vec_len};
@@ -20,13 +21,13 @@ use anyhow::Result;
 use fast_check_build::answers::ModuleAnswer;
 use fast_check_source_configs::config::Messages;
 use fast_check_source_configs::tsconfig::Projects;
-use fast_check_source_files::files::Files;
+use fast_check_source_files::files::{Files, Text};
 use fast_check_source_files::messages::Message;
 use fast_check_source_packages::packages::packages_of;
 use fast_check_source_packages::resolve::{Package, package_at};
 use std::alloc::{AllocError, Global};
 use std::collections::BTreeSet;
-use std::env;
+use std::env::{self, Args};
 use std::process::ExitCode;
 
 // The folders of the packages in which errors lie, if each lies in one.
@@ -93,9 +94,9 @@ fn answers_of_readable(
 }
 
 // What is answered of a folder: a line, and the status.
-fn answer(rt: &HostRuntime, folder: &str) -> Result<(String, u8)> {
+fn answer(rt: &HostRuntime, folder: &str, texts: &[Text]) -> Result<(String, u8)> {
     let alloc = rt.alloc();
-    let files = Files::new(rt, folder)?;
+    let files = Files::new(rt, folder, texts)?;
     let mut messages = Messages::new(alloc);
     let mut projects = Projects::new(alloc);
     let packages = packages_of(&files, &mut projects, &mut messages)?;
@@ -114,14 +115,32 @@ fn answer(rt: &HostRuntime, folder: &str) -> Result<(String, u8)> {
     Ok((line, status))
 }
 
+// What the words behind `--text` say, if there are two.
+fn text_of(words: &mut Args) -> Option<Text> {
+    let path = words.next()?;
+    let file = words.next()?;
+    Some(Text { path, file })
+}
+
 fn main(rt: HostRuntime) -> Result<ExitCode> {
     let mut words = env::args(&rt)?;
     let _ = words.next();
+    let mut texts = Vec::new(rt.alloc());
     let mut status = 0;
-    for folder in words {
-        let (line, own) = answer(&rt, folder.as_str())?;
-        println!(rt; "{line}")?;
-        status = own.max(status);
+    for _turn in 0..u64::MAX {
+        let Some(word) = words.next() else {
+            break;
+        };
+        if word.as_str() != "--text" {
+            let (line, own) = answer(&rt, word.as_str(), texts.as_slice())?;
+            println!(rt; "{line}")?;
+            status = own.max(status);
+        } else if let Some(text) = text_of(&mut words) {
+            texts.push(text)?;
+        } else {
+            eprintln!(rt; "error: `--text` wants a path and a file")?;
+            return Ok(ExitCode::from(2));
+        }
     }
     Ok(ExitCode::from(status))
 }

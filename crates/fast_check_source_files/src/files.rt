@@ -134,6 +134,15 @@ pub fn name_of(path: &str) -> &str {
     }
 }
 
+/// Where the text of a file lies that is read in place of its own.
+#[derive(Drop)]
+pub struct Text {
+    /// The path of the file from the folder that was named.
+    pub path: String,
+    /// The path of the other one, as the system takes it.
+    pub file: String,
+}
+
 /// The files of a folder.
 #[derive(Drop)]
 pub struct Files<'a> {
@@ -141,15 +150,25 @@ pub struct Files<'a> {
     root: &'a str,
     // The folder behind all links.
     real: String,
+    texts: &'a [Text],
 }
 
 impl<'a> Files<'a> {
-    pub fn new(rt: &'a HostRuntime, root: &'a str) -> Result<Files<'a>, AllocError> {
+    pub fn new(
+        rt: &'a HostRuntime,
+        root: &'a str,
+        texts: &'a [Text],
+    ) -> Result<Files<'a>, AllocError> {
         let real = match fs::canonicalize(rt, root) {
             Ok(path) => path.into_string(),
             Err(_) => String::from_str(rt.alloc(), root)?,
         };
-        Ok(Files { rt, root, real })
+        Ok(Files {
+            rt,
+            root,
+            real,
+            texts,
+        })
     }
 
     pub fn alloc(&self) -> Global {
@@ -208,12 +227,22 @@ impl<'a> Files<'a> {
         Ok(None)
     }
 
+    // The path, as the system takes it, of the file that has the text of a file.
+    fn source(&self, path: &str) -> Result<String, AllocError> {
+        for text in self.texts {
+            if text.path.as_str() == path {
+                return String::from_str(self.alloc(), text.file.as_str());
+            }
+        }
+        self.whole(path)
+    }
+
     /// The text of a file without its mark of byte order, if it is there and may be read.
     pub fn read(&self, path: &str) -> Result<Option<String>, AllocError> {
         if !self.is_file(path)? || self.refusal(path)?.is_some() {
             return Ok(None);
         }
-        let name = self.whole(path)?;
+        let name = self.source(path)?;
         match fs::read_to_string(self.rt, name.as_str()) {
             Ok(text) => match text.as_str().strip_prefix("\u{feff}") {
                 Some(rest) => Ok(Some(String::from_str(self.alloc(), rest)?)),

@@ -13,7 +13,8 @@ const PROGRAM = sourceProgramFile(process.env);
 const skip = !PROGRAM && 'fast-check-source is not built';
 
 const CRATE = path.join(TOP, 'crates/fast_check_source');
-const NAMES = fs.readFileSync(path.join(CRATE, 'args'), 'utf8').trim().split('\n');
+// The folders that the gate names, without the words that name texts.
+const NAMES = fs.readFileSync(path.join(CRATE, 'args'), 'utf8').replace(/^--text\n.*\n.*\n/gm, '').trim().split('\n');
 
 /** Runs words in the folder of the crate's data, with a program that prints what is wanted of a folder. */
 function runThere(/** @type {string[]} */ words, body = 'sed -n "$(grep -nx "${1##*/}" args | cut -d : -f 1)p" stdout') {

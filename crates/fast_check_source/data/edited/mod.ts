@@ -1,0 +1,1 @@
+export function written(): number { return Math.random(); }

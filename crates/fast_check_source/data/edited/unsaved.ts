@@ -1,0 +1,2 @@
+
+export function unsaved() { return Math.random(); }
