@@ -340,7 +340,7 @@ async function analyseByCompiler(dir, options, context) {
 /** @type {(keyof AnalyseOptions)[]} */
 const BY_COMPILER = ['name', 'version', 'exports', 'rules', 'within', 'members', 'keepSourceFiles', 'verify', 'dts', 'withDts', 'watch'];
 
-// A folder of more files is read by the compiler from the second run on: what it keeps takes less then than to read all again.
+// A folder of more files is read by the compiler from the second run on: what it keeps takes less then than to read all again. An editor's server has not kept it yet.
 const MANY = 100;
 
 /** Whether what is noted of a folder holds for later runs: not of one whose texts are being edited. */
@@ -371,7 +371,7 @@ async function analyseBySource(program, dir, options, context) {
   const { cwd } = context;
   const { answers, told, info, request } = await readBySource(program, dir, options, context);
   const note = () => options.kept && options.kept.noteForCompiler(path.resolve(dir), isLasting(options));
-  if (told.files.length > MANY) note();
+  if (told.files.length > MANY && isLasting(options)) note();
   /** @type {World | null} */
   let own = null;
   if (info) {

@@ -85,6 +85,19 @@ tested('what is no syntax is said by the compiler, which reads from then on, and
   assert.deepStrictEqual([aside.isLoaded(), aside.isClean()], [false, true]);
 });
 
+const NAMES = Array.from({ length: 120 }, (_, at) => `m${at}`);
+const LARGE = { ...Object.fromEntries(NAMES.map((name) => [`${name}.ts`, `export const ${name}: number = 1;\n`])), 'mod.ts': NAMES.map((name) => `export * from "./${name}.ts";\n`).join('') };
+
+tested('a package of many modules is read without a compiler behind each edit', LARGE, async (client, aside) => {
+  await client.begin({}, { workspaceFolders: [] });
+  client.open('m0.ts', 'export const m0 = 1;\n');
+  for (const line of [0, 1, 2]) {
+    client.change('m0.ts', { text: `${'\n'.repeat(line)}export const m0 = Math.random();\n` });
+    await client.until(() => client.shown('m0.ts').join() === `missing-explicit-type ${line}:13`, `the edit of line ${line}`);
+  }
+  assert.deepStrictEqual([aside.isLoaded(), await client.end()], [false, 0]);
+});
+
 /** A program that stops at its first run, and notes the number of the process; behind it the other one runs. */
 function stoppingIn(/** @type {string} */ folder) {
   const [program, note] = [path.join(folder, 'stopping'), path.join(folder, 'stopped')];
