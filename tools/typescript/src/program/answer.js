@@ -340,8 +340,10 @@ async function analyseByCompiler(dir, options, context) {
 /** @type {(keyof AnalyseOptions)[]} */
 const BY_COMPILER = ['name', 'version', 'exports', 'rules', 'within', 'members', 'keepSourceFiles', 'verify', 'dts', 'withDts', 'watch'];
 
-// A folder of more files is read by the compiler from the second run on: what it keeps takes less then than to read all again. An editor's server has not kept it yet.
+// A folder of more files is read by the compiler from the second run on: what it keeps takes less then than to read all again. In an editor it is one of more files than
+// that: the edit behind which the compiler begins waits for all that is to be kept.
 const MANY = 100;
+const MANY_EDITED = 500;
 
 /** Whether what is noted of a folder holds for later runs: not of one whose texts are being edited. */
 const isLasting = (/** @type {AnalyseOptions} */ { texts }) => !texts;
@@ -371,7 +373,7 @@ async function analyseBySource(program, dir, options, context) {
   const { cwd } = context;
   const { answers, told, info, request } = await readBySource(program, dir, options, context);
   const note = () => options.kept && options.kept.noteForCompiler(path.resolve(dir), isLasting(options));
-  if (told.files.length > MANY && isLasting(options)) note();
+  if (told.files.length > (isLasting(options) ? MANY : MANY_EDITED)) note();
   /** @type {World | null} */
   let own = null;
   if (info) {

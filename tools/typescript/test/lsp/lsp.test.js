@@ -188,29 +188,6 @@ describe('the protocol', () => {
   }));
 });
 
-describe('a file whose tree alone is handed over', () => {
-  const { analyse } = require('../../src/program/answer.js');
-  const { Progress } = require('../../src/cli/progress.js');
-  const { plain } = require('../../src/messages/message.js');
-  const packages = path.resolve(__dirname, '../packages');
-
-  it('has the messages of a whole check', async () => {
-    let count = 0;
-    for (const name of fs.readdirSync(packages)) {
-      const cwd = path.join(packages, name);
-      const asked = (/** @type {Set<string> | undefined} */ treesOf) => analyse(cwd, { treesOf }, { cwd, environment: process.env, progress: new Progress({ write: () => true }, false) });
-      const messagesOf = (/** @type {import('../../src/program/types').World} */ world, /** @type {string} */ file) => [...world.warnings, ...world.broken, ...world.messages].map(plain).filter((it) => it.file && path.resolve(cwd, it.file) === file);
-      const whole = await asked(undefined).catch(() => null);
-      if (!whole) continue;
-      for (const { path: file } of [...whole.files.values()].slice(0, 6)) {
-        assert.deepStrictEqual(messagesOf(await asked(new Set([file])), file), messagesOf(whole, file), `${name} ${file}`);
-        count += 1;
-      }
-    }
-    assert.ok(count > 200, `${count} files`);
-  });
-});
-
 describe('edits and cancels without end', () => {
   /** Random numbers of a seed. */
   function randomOf(/** @type {number} */ seed) {

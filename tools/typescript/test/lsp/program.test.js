@@ -85,18 +85,24 @@ tested('what is no syntax is said by the compiler, which reads from then on, and
   assert.deepStrictEqual([aside.isLoaded(), aside.isClean()], [false, true]);
 });
 
-const NAMES = Array.from({ length: 120 }, (_, at) => `m${at}`);
-const LARGE = { ...Object.fromEntries(NAMES.map((name) => [`${name}.ts`, `export const ${name}: number = 1;\n`])), 'mod.ts': NAMES.map((name) => `export * from "./${name}.ts";\n`).join('') };
+/** A package of so many modules, and one that exports them. */
+function packageOf(/** @type {number} */ count) {
+  const names = Array.from({ length: count }, (_, at) => `m${at}`);
+  const modules = Object.fromEntries(names.map((name) => [`${name}.ts`, `export const ${name}: number = 1;\n`]));
+  return { ...modules, 'mod.ts': names.map((name) => `export * from "./${name}.ts";\n`).join('') };
+}
 
-tested('a package of many modules is read without a compiler behind each edit', LARGE, async (client, aside) => {
-  await client.begin({}, { workspaceFolders: [] });
-  client.open('m0.ts', 'export const m0 = 1;\n');
-  for (const line of [0, 1, 2]) {
-    client.change('m0.ts', { text: `${'\n'.repeat(line)}export const m0 = Math.random();\n` });
-    await client.until(() => client.shown('m0.ts').join() === `missing-explicit-type ${line}:13`, `the edit of line ${line}`);
-  }
-  assert.deepStrictEqual([aside.isLoaded(), await client.end()], [false, 0]);
-});
+for (const [count, reader] of /** @type {[number, string][]} */ ([[120, 'program'], [510, 'compiler']])) {
+  tested(`a package of ${count} modules is read by the ${reader} behind an edit`, packageOf(count), async (client, aside) => {
+    await client.begin({}, { workspaceFolders: [] });
+    client.open('m0.ts', '\nexport const m0 = Math.random();\n');
+    await client.until(() => client.shown('m0.ts').join() === 'missing-explicit-type 1:13', 'diagnostics');
+    assert.strictEqual(aside.isLoaded(), false);
+    client.change('m0.ts', { text: 'export const m0 = Math.random();\n' });
+    await client.until(() => client.shown('m0.ts').join() === 'missing-explicit-type 0:13', 'the edit');
+    assert.deepStrictEqual([aside.isLoaded(), await client.end()], [reader === 'compiler', 0]);
+  });
+}
 
 /** A program that stops at its first run, and notes the number of the process; behind it the other one runs. */
 function stoppingIn(/** @type {string} */ folder) {
