@@ -41,7 +41,7 @@ function relatedOf(/** @type {World} */ world, /** @type {Map<string, Lead>} */ 
   if (!lead) return [];
   const file = world.files.get(lead.from);
   const module = world.info.modules.find((it) => it.specifier === lead.from);
-  const source = module && (module.tree.sources || []).find(({ text }) => text === lead.text);
+  const source = module && (module.leads || module.tree.sources || []).find(({ text }) => text === lead.text);
   if (!source || !file) return [];
   const range = rangeOf(file.lines, source.offset, source.offset + source.text.length + 2);
   return [{ location: { uri: pathToFileURL(file.path).href, range }, message: `the public API leads to this module by '${lead.text}'` }];

@@ -7,6 +7,7 @@ const { Progress } = require('../cli/progress.js');
 const { NAMES } = require('../cli/targets.js');
 const { FIXABLE } = require('../messages/codes.js');
 const { keptFor } = require('../package/cache.js');
+const { EITHER } = require('../program/program.js');
 const { diagnosticsOf } = require('./diagnostics.js');
 const { editsBetween } = require('./documents.js');
 
@@ -38,11 +39,11 @@ class Project {
 
   get options() {
     const { allow, rules } = this.host.settings;
-    return { allow, rules, format: 'json' };
+    return { allow, rules, format: 'json', reader: EITHER };
   }
 
   context(/** @type {AbortSignal} */ signal) {
-    return { cwd: this.dir, environment: process.env, progress: new Progress({ write() {} }, false), signal };
+    return { cwd: this.dir, environment: process.env, progress: new Progress({ write() {} }, false), isCommand: true, signal };
   }
 
   /** Checks the package once nothing is typed for a moment. `file` is the document that changed; without one anything may have. */
@@ -58,8 +59,8 @@ class Project {
   }
 
   /**
-   * Checks the package; a check that is still at work is given up. Behind an edit the documents that were edited are looked at first, beside what the last
-   * whole check said of the others, and all of the package a moment later.
+   * Checks the package; a check that is still at work is given up. Behind an edit the compiler's reader looks at the documents that were edited first, beside what
+   * the last whole check said of the others, and at all of the package a moment later. The program reads all of it at once.
    */
   async check() {
     if (this.running) this.running.abort();
@@ -69,16 +70,18 @@ class Project {
     const treesOf = this.whole && this.edited.size ? new Set(this.edited) : undefined;
     this.edited.clear();
     this.kept.begin();
-    const asked = { ...this.options, texts: this.host.texts, kept: this.kept, treesOf };
+    // The texts of now: an edit may come while the program is at work.
+    const asked = { ...this.options, texts: new Map(this.host.texts), kept: this.kept, treesOf };
     const result = await resultOf({ dir: this.dir, exports: undefined }, asked, { context: this.context(controller.signal), baseline: null });
     if (controller.signal.aborted) {
       for (const file of treesOf || []) this.edited.add(file);
       return;
     }
     this.running = null;
-    if (treesOf) this.later(SETTLED);
-    else this.whole = result;
-    this.show(treesOf ? this.merged(result, treesOf) : result, begun);
+    const isWhole = !treesOf || Boolean(result.world && result.world.isBySource);
+    if (isWhole) this.whole = result;
+    else this.later(SETTLED);
+    this.show(isWhole ? result : this.merged(result, treesOf), begun);
   }
 
   /** The messages of files that were looked at, and what was last said of the others. */

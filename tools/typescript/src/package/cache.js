@@ -194,6 +194,9 @@ class Kept {
     this.parts = new Map();
     /** @type {Map<string, KeptAnswers>} */
     this.answers = new Map();
+    // The folders that the compiler reads from now on.
+    /** @type {Set<string>} */
+    this.forCompiler = new Set();
     this.round = 0;
     this.made = 0;
   }
@@ -269,13 +272,14 @@ class Kept {
     if (this.folder) this.folder.put(this.keyOf('answers', root), answers);
   }
 
-  /** Whether an earlier run noted that the compiler reads a folder, whose trees are kept, and not the program. */
-  isForCompiler(/** @type {string} */ root) {
-    return Boolean(this.folder && this.folder.get(this.keyOf('reader', root)));
+  /** Whether it is noted that the compiler reads a folder, whose trees are kept, and not the program: by this run, or by an earlier one where that counts. */
+  isForCompiler(/** @type {string} */ root, /** @type {boolean} */ isLasting) {
+    return this.forCompiler.has(root) || Boolean(isLasting && this.folder && this.folder.get(this.keyOf('reader', root)));
   }
 
-  noteForCompiler(/** @type {string} */ root) {
-    if (this.folder) this.folder.put(this.keyOf('reader', root), {});
+  noteForCompiler(/** @type {string} */ root, /** @type {boolean} */ isLasting) {
+    this.forCompiler.add(root);
+    if (isLasting && this.folder) this.folder.put(this.keyOf('reader', root), {});
   }
 
   /** The last answer that is kept under a name, or null. */

@@ -121,6 +121,8 @@ export interface Module extends Script {
   sourceFile?: ts.SourceFile;
   /** Of one that the program reads: whether a body names its return type by its only return. */
   namesReturns?: boolean;
+  /** Of the same: the texts by which it names other modules. */
+  leads?: { text: string; offset: number }[];
 }
 
 /** An import that leads out of the folder. */

@@ -2,7 +2,7 @@
 // From a folder to what the program answers of it: skeletons by module, or messages with their places.
 const fs = require('fs');
 const path = require('path');
-const { readBySource } = require('./by-source.js');
+const { readBySource, textOf } = require('./by-source.js');
 const { EITHER, sourceProgramFile } = require('./program.js');
 const { ProgramError, lineOf } = require('./run.js');
 const { INTERNAL } = require('../cli/exit.js');
@@ -307,7 +307,7 @@ function withAnswers(world, answers, { cwd }) {
 
 /**
  * Reads a folder and runs the program on it. `broken` says why packages of it cannot be read; `messages` are of the others. With `treesOf`, a
- * set of paths, only messages of these files are complete (`withTreesOf`).
+ * set of paths, only messages of these files are complete where the compiler reads (`withTreesOf`).
  *
  * @param {string} dir
  * @param {AnalyseOptions} options
@@ -338,17 +338,22 @@ async function analyseByCompiler(dir, options, context) {
 
 // What is asked of a folder that its files do not say, or of trees. A watched folder is read again and again, for which the compiler's trees are kept.
 /** @type {(keyof AnalyseOptions)[]} */
-const BY_COMPILER = ['name', 'version', 'exports', 'rules', 'texts', 'within', 'treesOf', 'members', 'keepSourceFiles', 'verify', 'dts', 'withDts', 'watch'];
+const BY_COMPILER = ['name', 'version', 'exports', 'rules', 'within', 'members', 'keepSourceFiles', 'verify', 'dts', 'withDts', 'watch'];
 
-// A folder of more files is read by the compiler from the second run on: what it keeps takes less then than to read all again.
+// A folder of more files is read by the compiler from the second run on: what it keeps takes less then than to read all again. In an editor it is one of more files than
+// that: the edit behind which the compiler begins waits for all that is to be kept.
 const MANY = 100;
+const MANY_EDITED = 500;
+
+/** Whether what is noted of a folder holds for later runs: not of one whose texts are being edited. */
+const isLasting = (/** @type {AnalyseOptions} */ { texts }) => !texts;
 
 /** The program that reads folders, where it is to; null where the compiler is. */
 function sourceProgram(/** @type {string} */ dir, /** @type {AnalyseOptions} */ options, /** @type {RunContext} */ { environment }) {
   const { reader = 'typescript', kept } = options;
   if (reader === 'typescript' || BY_COMPILER.some((it) => options[it])) return null;
   if (reader === EITHER) refuseWrongVariable();
-  if (reader === EITHER && kept && candidateFiles().length && kept.isForCompiler(path.resolve(dir))) return null;
+  if (reader === EITHER && kept && candidateFiles().length && kept.isForCompiler(path.resolve(dir), isLasting(options))) return null;
   const program = sourceProgramFile(environment);
   if (program || reader === EITHER) return program;
   throw new ProgramError('there is no fast-check-source beside the other program, and the variable FAST_CHECK_SOURCE names none', 5);
@@ -367,8 +372,8 @@ function sourceProgram(/** @type {string} */ dir, /** @type {AnalyseOptions} */ 
 async function analyseBySource(program, dir, options, context) {
   const { cwd } = context;
   const { answers, told, info, request } = await readBySource(program, dir, options, context);
-  const note = () => options.kept && options.kept.noteForCompiler(path.resolve(dir));
-  if (told.files.length > MANY) note();
+  const note = () => options.kept && options.kept.noteForCompiler(path.resolve(dir), isLasting(options));
+  if (told.files.length > (isLasting(options) ? MANY : MANY_EDITED)) note();
   /** @type {World | null} */
   let own = null;
   if (info) {
@@ -383,14 +388,14 @@ async function analyseBySource(program, dir, options, context) {
     const { code } = /** @type {import('../cli/types').KnownError} */ (error);
     if (own && (code === NO_COMPILER || error instanceof ReadError)) return own;
     if (code !== NO_COMPILER) throw error;
-    throw new ReadError(`${shownName(dir, cwd)} cannot be read`, saidMessages(told, dir, cwd));
+    throw new ReadError(`${shownName(dir, cwd)} cannot be read`, saidMessages(told, dir, options, cwd));
   }
 }
 
 /** What the program says of a folder, as messages. */
-function saidMessages(/** @type {import('./by-source.js').Told} */ { errors, faults, warnings }, /** @type {string} */ dir, /** @type {string} */ cwd) {
+function saidMessages(/** @type {import('./by-source.js').Told} */ { errors, faults, warnings }, /** @type {string} */ dir, /** @type {AnalyseOptions} */ { texts: given }, /** @type {string} */ cwd) {
   const all = [...errors, ...faults, ...warnings].map((it) => ({ ...it, path: path.join(dir, it.path) }));
-  const texts = new Map(all.filter((it) => it.line && fs.existsSync(it.path)).map(({ path: file }) => [file, readText(file).text]));
+  const texts = new Map(all.filter((it) => it.line && fs.existsSync(it.path)).map(({ path: file }) => [file, textOf(file, given)]));
   const files = new Map([...texts].map(([file, text]) => [file, /** @type {SourceFile} */ ({ path: file, text, lines: new Lines(text) })]));
   return all.map((error) => readMessage(error, cwd, files));
 }

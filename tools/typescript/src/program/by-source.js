@@ -1,11 +1,12 @@
 'use strict';
 // What the program `fast-check-source` answers of a folder: it reads TypeScript itself, and the compiler takes no part.
+const fs = require('fs');
 const path = require('path');
 const { answersOf } = require('./answers.js');
-const { ProgramError, run } = require('./run.js');
+const { ProgramError, run, withFolder } = require('./run.js');
 const { NO_COMPILER } = require('../compiler/find.js');
 const { configOf, described, settingsOf } = require('../package/config.js');
-const { isDeclarationFile, isJavaScript, mediaTypeOf, readText } = require('../package/files.js');
+const { isDeclarationFile, isInside, isJavaScript, mediaTypeOf, readText } = require('../package/files.js');
 const { urlOf, withUrls } = require('../package/read.js');
 const { Lookup, RELATIVE, Resolver, SCHEME, packageName } = require('../package/resolve.js');
 const { refersTo } = require('../skeleton/effects.js');
@@ -57,15 +58,54 @@ async function readAhead(/** @type {string} */ program, /** @type {string[]} */ 
   }
 }
 
+/** The text of a file, or the one that is given in its place. */
+function textOf(/** @type {string} */ file, /** @type {Map<string, string> | undefined} */ texts) {
+  const given = texts && texts.get(file);
+  return given === undefined ? readText(file).text : given;
+}
+
+/** The text of a file; null where it cannot be read. */
+function textIn(/** @type {string} */ file) {
+  try {
+    return readText(file).text;
+  } catch {
+    return null;
+  }
+}
+
+/**
+ * The texts of modules below a folder that are others than those of their files, by the paths of the files.
+ *
+ * @returns {[file: string, text: string][]}
+ */
+function unsavedIn(/** @type {string} */ root, /** @type {Map<string, string> | undefined} */ texts) {
+  return [...texts || []].filter(([file, text]) => {
+    const mediaType = mediaTypeOf(file);
+    const isModule = mediaType !== 'Unknown' && mediaType !== 'Json' && !isJavaScript(mediaType);
+    return isModule && isInside(root, file) && textIn(file) !== text;
+  });
+}
+
+/** Runs the program on a folder, with texts in place of those of some files. */
+function runOn(/** @type {string} */ program, /** @type {string} */ dir, /** @type {[file: string, text: string][]} */ unsaved, /** @type {RunContext} */ { progress, isCommand, signal }) {
+  const runBy = (/** @type {string[]} */ words) => run([program, ...words, dir], (line) => progress.line(line), signal);
+  if (!unsaved.length) return runBy([]);
+  return withFolder(isCommand, (folder) => runBy(unsaved.flatMap(([file, text], at) => {
+    const beside = path.join(folder, String(at));
+    // The program takes one mark of byte order away.
+    fs.writeFileSync(beside, `\ufeff${text}`);
+    return ['--text', path.relative(path.resolve(dir), file), beside];
+  })));
+}
+
 /** The line that the program prints for a folder. */
-async function lineOf(/** @type {string} */ program, /** @type {string} */ dir, /** @type {RunContext} */ { progress, signal: ended }) {
+async function lineOf(/** @type {string} */ program, /** @type {string} */ dir, /** @type {[file: string, text: string][]} */ unsaved, /** @type {RunContext} */ context) {
   const known = ahead.get(dir);
   if (known !== undefined) {
     ahead.delete(dir);
     return known;
   }
-  const tell = (/** @type {string} */ line) => progress.line(line);
-  const { status, out, said, signal } = await progress.during('the program is at work', run([program, dir], tell, ended));
+  const { status, out, said, signal } = await context.progress.during('the program is at work', runOn(program, dir, unsaved, context));
   if (status <= 2 && out.trim()) return /** @type {string} */ (out.trimEnd());
   const why = said || (signal ? `it was stopped by ${signal}` : `it ended with status ${status}`);
   throw new ProgramError(`the program did not answer: ${why.replace(/^error: /, '')}`, status > 2 && status <= 5 ? status : 5);
@@ -103,6 +143,7 @@ class Folder {
   constructor(/** @type {string} */ dir, /** @type {Told} */ told, /** @type {AnalyseOptions} */ options) {
     this.root = path.resolve(dir);
     this.told = told;
+    this.texts = options.texts;
     this.lookup = Lookup.of(this.root);
     /** @type {import('../package/types').FileError[]} */
     this.errors = [];
@@ -138,16 +179,17 @@ class Folder {
     const file = path.join(this.root, read.path);
     const mediaType = mediaTypeOf(file);
     if (mediaType === 'Unknown') return;
-    const plain = { specifier: urlOf(this.root, file), path: file, text: readText(file).text, mediaType };
+    const plain = { specifier: urlOf(this.root, file), path: file, text: textOf(file, this.texts), mediaType };
     if (mediaType === 'Json') this.info.jsonModules.push(plain);
     else if (isJavaScript(mediaType)) this.info.scripts.push(plain);
     else this.addModule(plain, read);
   }
 
   addModule(/** @type {Script} */ plain, /** @type {ReadFile} */ read) {
-    this.info.modules.push(moduleOf(plain, read));
     const lines = new Lines(plain.text);
-    for (const { text, start, target } of read.leads) this.lead(plain, { text, target, offset: lines.offset(start) });
+    const leads = read.leads.map(({ text, start, target }) => ({ text, target, offset: lines.offset(start) }));
+    this.info.modules.push(Object.assign(moduleOf(plain, read), { leads }));
+    for (const each of leads) this.lead(plain, each);
   }
 
   /** Where a text of a module leads. */
@@ -195,7 +237,8 @@ function requestOf(/** @type {import('../package/types').Resolution[]} */ resolu
  */
 async function readBySource(program, dir, options, context) {
   const begun = Date.now();
-  const { answers, told } = parted(await lineOf(program, dir, context));
+  const unsaved = unsavedIn(path.resolve(dir), options.texts);
+  const { answers, told } = parted(await lineOf(program, dir, unsaved, context));
   const reading = context.reading || ((/** @type {() => Folder} */ call) => call());
   const folder = reading(() => new Folder(dir, told, options));
   if (context.beside) context.beside(folder.root, begun);
@@ -203,4 +246,4 @@ async function readBySource(program, dir, options, context) {
   return { answers, told, info: isRead ? folder.info : null, request: requestOf(folder.resolutions) };
 }
 
-module.exports = { readAhead, readBySource };
+module.exports = { readAhead, readBySource, textOf };

@@ -64,15 +64,37 @@ function textOf(/** @type {Request} */ request) {
   }
 }
 
-/** Removes a folder where the command is ended by a signal; answers what no longer does. */
-function removedAtSignals(/** @type {() => void} */ remove) {
-  const stop = (/** @type {NodeJS.Signals} */ signal) => {
-    remove();
-    process.exit(128 + os.constants.signals[signal]);
-  };
-  const signals = ['SIGINT', 'SIGTERM', 'SIGHUP'];
-  for (const signal of signals) process.once(signal, stop);
-  return () => signals.forEach((signal) => process.removeListener(signal, stop));
+const SIGNALS = ['SIGINT', 'SIGTERM', 'SIGHUP'];
+/**
+ * The folders that are removed where a signal ends the command.
+ *
+ * @type {Set<string>}
+ */
+const atWork = new Set();
+const removeFolder = (/** @type {string} */ folder) => fs.rmSync(folder, { recursive: true, force: true });
+
+function stop(/** @type {NodeJS.Signals} */ signal) {
+  atWork.forEach(removeFolder);
+  process.exit(128 + os.constants.signals[signal]);
+}
+
+/**
+ * Calls with a folder for what a program reads, which is removed behind it; of a command also where a signal of the system ends it.
+ *
+ * @template R
+ * @param {boolean | undefined} isCommand
+ * @param {(folder: string) => Promise<R>} call
+ */
+async function withFolder(isCommand, call) {
+  const folder = fs.mkdtempSync(path.join(os.tmpdir(), FOLDER));
+  if (isCommand && !atWork.size) SIGNALS.forEach((signal) => process.on(signal, stop));
+  if (isCommand) atWork.add(folder);
+  try {
+    return await call(folder);
+  } finally {
+    removeFolder(folder);
+    if (atWork.delete(folder) && !atWork.size) SIGNALS.forEach((signal) => process.removeListener(signal, stop));
+  }
 }
 
 /**
@@ -82,11 +104,8 @@ function removedAtSignals(/** @type {() => void} */ remove) {
  * @param {{ unproved?: boolean, environment: Record<string, string | undefined>, tell: (line: string) => void, isCommand?: boolean, signal?: AbortSignal }} options
  *   of a command a signal of the system removes what was written; `signal` ends the program early, and is thrown
  */
-async function lineOf(request, { unproved, environment, tell, isCommand, signal: ended }) {
-  const folder = fs.mkdtempSync(path.join(os.tmpdir(), FOLDER));
-  const remove = () => fs.rmSync(folder, { recursive: true, force: true });
-  const free = isCommand ? removedAtSignals(remove) : () => {};
-  try {
+function lineOf(request, { unproved, environment, tell, isCommand, signal: ended }) {
+  return withFolder(isCommand, async (folder) => {
     const file = path.join(folder, 'input.json');
     fs.writeFileSync(file, textOf(request));
     const words = command({ unproved, environment });
@@ -94,10 +113,7 @@ async function lineOf(request, { unproved, environment, tell, isCommand, signal:
     if (status === 0 || status === 1) return /** @type {string} */ (out.trimEnd());
     const why = said || (signal ? `it was stopped by ${signal}` : `it ended with status ${status}`);
     throw new ProgramError(`the program did not answer: ${why.replace(/^error: /, '')}`, status <= 5 ? status : 5);
-  } finally {
-    remove();
-    free();
-  }
+  });
 }
 
-module.exports = { FOLDER, ProgramError, lineOf, run };
+module.exports = { FOLDER, ProgramError, lineOf, run, withFolder };

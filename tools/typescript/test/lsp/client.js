@@ -1,6 +1,8 @@
 'use strict';
 // A client of the language server, as an editor is one.
 const childProcess = require('child_process');
+const fs = require('fs');
+const os = require('os');
 const path = require('path');
 const { pathToFileURL } = require('url');
 const { Framing } = require('../../src/lsp/connection.js');
@@ -14,9 +16,9 @@ const TOOL = path.resolve(__dirname, '../../bin/fast-check-ts.js');
 
 class Client {
   /** Starts a server for a folder. */
-  constructor(/** @type {string} */ folder) {
+  constructor(/** @type {string} */ folder, /** @type {NodeJS.ProcessEnv} */ environment = {}) {
     this.folder = folder;
-    this.child = childProcess.spawn(process.execPath, [TOOL, 'lsp'], { cwd: folder, stdio: ['pipe', 'pipe', 'pipe'] });
+    this.child = childProcess.spawn(process.execPath, [TOOL, 'lsp'], { cwd: folder, stdio: ['pipe', 'pipe', 'pipe'], env: { ...process.env, ...environment } });
     /** @type {Map<string, Diagnostic[]>} */
     this.diagnostics = new Map();
     /** @type {{ type: number, message: string }[]} */
@@ -130,4 +132,21 @@ class Client {
   }
 }
 
-module.exports = { Client };
+/** Calls with a client of a folder with some files, and ends both. */
+async function withFiles(/** @type {Record<string, string>} */ files, /** @type {(client: Client, folder: string) => Promise<void>} */ call, /** @type {NodeJS.ProcessEnv} */ environment = {}) {
+  const folder = fs.mkdtempSync(path.join(os.tmpdir(), 'fast-check-editor-'));
+  for (const [name, text] of Object.entries({ 'deno.json': '{"name": "@me/it", "version": "1.0.0", "exports": "./mod.ts"}', ...files })) {
+    fs.mkdirSync(path.dirname(path.join(folder, name)), { recursive: true });
+    fs.writeFileSync(path.join(folder, name), text);
+  }
+  const client = new Client(folder, environment);
+  try {
+    await call(client, folder);
+  } finally {
+    client.child.kill('SIGKILL');
+    await client.status;
+    fs.rmSync(folder, { recursive: true, force: true });
+  }
+}
+
+module.exports = { Client, withFiles };

@@ -7,8 +7,9 @@ const path = require('path');
 const { describe, it, before, after } = require('node:test');
 const { pathToFileURL } = require('url');
 const { changedText, editsBetween, offsetAt } = require('../../src/lsp/documents.js');
+const { sourceProgramFile } = require('../../src/program/program.js');
 const { Lines } = require('../../src/tree/lines.js');
-const { Client } = require('./client.js');
+const { Client, withFiles } = require('./client.js');
 
 /** @typedef {import('../../src/lsp/types').CodeAction} CodeAction */
 /** @typedef {import('../../src/lsp/types').Diagnostic} Diagnostic */
@@ -24,23 +25,6 @@ before(() => {
   process.env.XDG_CACHE_HOME = cache;
 });
 after(() => fs.rmSync(cache, { recursive: true, force: true }));
-
-/** Calls with a client of a folder with some files, and ends both. */
-async function withFiles(/** @type {Record<string, string>} */ files, /** @type {(client: Client, folder: string) => Promise<void>} */ call) {
-  const folder = fs.mkdtempSync(path.join(os.tmpdir(), 'fast-check-editor-'));
-  for (const [name, text] of Object.entries({ 'deno.json': '{"name": "@me/it", "version": "1.0.0", "exports": "./mod.ts"}', ...files })) {
-    fs.mkdirSync(path.dirname(path.join(folder, name)), { recursive: true });
-    fs.writeFileSync(path.join(folder, name), text);
-  }
-  const client = new Client(folder);
-  try {
-    await call(client, folder);
-  } finally {
-    client.child.kill('SIGKILL');
-    await client.status;
-    fs.rmSync(folder, { recursive: true, force: true });
-  }
-}
 
 /** A text behind edits, which do not overlap. */
 function edited(/** @type {string} */ text, /** @type {TextEdit[]} */ edits) {
@@ -172,24 +156,23 @@ describe('the protocol', () => {
     });
   });
 
-  it('goes on behind a check that fails', () => withFiles(FILES, async (client, folder) => {
-    const program = process.env.FAST_CHECK;
-    const failing = path.join(folder, 'failing');
-    fs.writeFileSync(failing, `#!/bin/sh\n[ -e ${folder}/mended ] && exec ${program} "$@"\nkill -SEGV $$\n`, { mode: 0o755 });
-    process.env.FAST_CHECK = failing;
-    const other = new Client(folder);
-    process.env.FAST_CHECK = program;
-    try {
-      await other.begin();
-      await other.until(() => other.logs.some(({ type, message }) => type === 1 && /did not answer/.test(message)), 'the failure');
-      fs.writeFileSync(path.join(folder, 'mended'), '');
-      other.open('mod.ts', FILES['mod.ts']);
-      await other.until(() => other.shown('mod.ts').length, 'what a later check says');
-      assert.strictEqual(await other.end(), 0);
-    } finally {
-      other.child.kill('SIGKILL');
-    }
-  }));
+  for (const [variable, program] of [['FAST_CHECK', process.env.FAST_CHECK], ['FAST_CHECK_SOURCE', sourceProgramFile(process.env)]]) {
+    it(`goes on behind a check of ${variable} that fails`, { skip: !program && 'the program is not built' }, () => withFiles(FILES, async (client, folder) => {
+      const failing = path.join(folder, 'failing');
+      fs.writeFileSync(failing, `#!/bin/sh\n[ -e ${folder}/mended ] && exec ${program} "$@"\nkill -SEGV $$\n`, { mode: 0o755 });
+      const other = new Client(folder, { FAST_CHECK_SOURCE: undefined, [variable || '']: failing });
+      try {
+        await other.begin();
+        await other.until(() => other.logs.some(({ type, message }) => type === 1 && /did not answer/.test(message)), 'the failure');
+        fs.writeFileSync(path.join(folder, 'mended'), '');
+        other.open('mod.ts', FILES['mod.ts']);
+        await other.until(() => other.shown('mod.ts').length, 'what a later check says');
+        assert.strictEqual(await other.end(), 0);
+      } finally {
+        other.child.kill('SIGKILL');
+      }
+    }));
+  }
 
   it('passes over what is no message', () => withFiles(FILES, async (client) => {
     await client.begin();
@@ -203,29 +186,6 @@ describe('the protocol', () => {
     await client.until(() => client.refusals.length === 5, 'the refusal of what is too long');
     assert.strictEqual(await client.end(), 0);
   }));
-});
-
-describe('a file whose tree alone is handed over', () => {
-  const { analyse } = require('../../src/program/answer.js');
-  const { Progress } = require('../../src/cli/progress.js');
-  const { plain } = require('../../src/messages/message.js');
-  const packages = path.resolve(__dirname, '../packages');
-
-  it('has the messages of a whole check', async () => {
-    let count = 0;
-    for (const name of fs.readdirSync(packages)) {
-      const cwd = path.join(packages, name);
-      const asked = (/** @type {Set<string> | undefined} */ treesOf) => analyse(cwd, { treesOf }, { cwd, environment: process.env, progress: new Progress({ write: () => true }, false) });
-      const messagesOf = (/** @type {import('../../src/program/types').World} */ world, /** @type {string} */ file) => [...world.warnings, ...world.broken, ...world.messages].map(plain).filter((it) => it.file && path.resolve(cwd, it.file) === file);
-      const whole = await asked(undefined).catch(() => null);
-      if (!whole) continue;
-      for (const { path: file } of [...whole.files.values()].slice(0, 6)) {
-        assert.deepStrictEqual(messagesOf(await asked(new Set([file])), file), messagesOf(whole, file), `${name} ${file}`);
-        count += 1;
-      }
-    }
-    assert.ok(count > 200, `${count} files`);
-  });
 });
 
 describe('edits and cancels without end', () => {
