@@ -1,6 +1,6 @@
 //! `fast-check-source DIR ..`: reads the packages of each folder, and answers what `fast-check build` answers of them: a skeleton or the diagnostics of each
-//! of their public modules, with what is wrong with their files, the packages, and the files that were read, as a line of JSON. The status is 2 where a package
-//! cannot be read, and else 1 where a module has diagnostics.
+//! of their public modules, with what is wrong with their files, the packages, and the files that were read, as a line of JSON. Of the folders behind `--input`
+//! it tells what `fast-check build` is asked, in place of the answers. The status is 2 where a package cannot be read, and else 1 where a module has diagnostics.
 #![tactic(auto)]
 
 ghost use Rattle.std.specs.Prelude.{◌≡◌, ◌≢◌, IsTrue, vec_len};
@@ -13,11 +13,10 @@ mod sources;
 mod urls;
 mod world;
 
-use crate::answers::build;
+use crate::answers::{build, input_of};
 use crate::follow::{Found, modules_of};
-use crate::lines::line_of;
+use crate::lines::{Told, line_of};
 use anyhow::Result;
-use fast_check_build::answers::ModuleAnswer;
 use fast_check_source_configs::config::Messages;
 use fast_check_source_configs::tsconfig::Projects;
 use fast_check_source_files::files::Files;
@@ -78,39 +77,30 @@ fn status_of(messages: &Messages, has_diagnostics: bool) -> u8
     }
 }
 
-// What is answered of the packages of a folder that can be read.
-fn answers_of_readable(
-    alloc: Global,
-    packages: &[Package],
-    found: Found,
-    errors: &[Message],
-) -> Result<Vec<ModuleAnswer>> {
-    let packages = readable(alloc, packages, errors)?;
-    if packages.is_empty() {
-        return Ok(Vec::new(alloc));
+// What is told of the packages of a folder that can be read.
+fn told_of(alloc: Global, packages: &[&Package], found: Found, asks_input: bool) -> Result<Told> {
+    let (input, own_names) = input_of(alloc, packages, found)?;
+    if asks_input {
+        return Ok(Told::Input(input));
     }
-    build(alloc, packages.as_slice(), found)
+    if packages.is_empty() {
+        return Ok(Told::Answers(Vec::new(alloc)));
+    }
+    Ok(Told::Answers(build(alloc, input, &own_names)?))
 }
 
 // What is answered of a folder: a line, and the status.
-fn answer(rt: &HostRuntime, folder: &str) -> Result<(String, u8)> {
+fn answer(rt: &HostRuntime, folder: &str, asks_input: bool) -> Result<(String, u8)> {
     let alloc = rt.alloc();
     let files = Files::new(rt, folder)?;
     let mut messages = Messages::new(alloc);
     let mut projects = Projects::new(alloc);
     let packages = packages_of(&files, &mut projects, &mut messages)?;
     let (found, read, messages) = modules_of(&files, packages.as_slice(), projects, messages)?;
-    let errors = messages.errors.as_slice();
-    let answers = answers_of_readable(alloc, packages.as_slice(), found, errors)?;
-    let has_diagnostics = answers.iter().any(|answer| answer.1.is_err());
-    let status = status_of(&messages, has_diagnostics);
-    let line = line_of(
-        alloc,
-        answers,
-        &messages,
-        packages.as_slice(),
-        read.as_slice(),
-    )?;
+    let asked = readable(alloc, packages.as_slice(), messages.errors.as_slice())?;
+    let told = told_of(alloc, asked.as_slice(), found, asks_input)?;
+    let status = status_of(&messages, told.has_diagnostics());
+    let line = line_of(alloc, told, &messages, packages.as_slice(), read.as_slice())?;
     Ok((line, status))
 }
 
@@ -118,8 +108,13 @@ fn main(rt: HostRuntime) -> Result<ExitCode> {
     let mut words = env::args(&rt)?;
     let _ = words.next();
     let mut status = 0;
-    for folder in words {
-        let (line, own) = answer(&rt, folder.as_str())?;
+    let mut asks_input = false;
+    for word in words {
+        if word.as_str() == "--input" {
+            asks_input = true;
+            continue;
+        }
+        let (line, own) = answer(&rt, word.as_str(), asks_input)?;
         println!(rt; "{line}")?;
         status = own.max(status);
     }
