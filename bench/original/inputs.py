@@ -120,10 +120,10 @@ def showing_ranges(request):
 
 
 def package_input(directory, folder):
-    """The input that fast-check-ts makes of a package; None where it makes none."""
+    """The input that fast-check-ts makes of a package by TypeScript's compiler; None where it makes none."""
     file = folder / f"{Path(directory).name}-{len(os.listdir(folder))}.json"
     with open(file, "wb") as out:
-        done = subprocess.run([TOP / "fast-check-ts", "input", "--no-own-compiler", directory], stdin=subprocess.DEVNULL, stdout=out, stderr=subprocess.PIPE)
+        done = subprocess.run([TOP / "fast-check-ts", "input", "--reader", "typescript", "--no-own-compiler", directory], stdin=subprocess.DEVNULL, stdout=out, stderr=subprocess.PIPE)
     if done.returncode or not file.stat().st_size or file.read_bytes().strip() == b"null":
         print(f"inputs.py: no input of {directory}: {done.stderr.decode()[:200].strip()}", file=sys.stderr)
         return None

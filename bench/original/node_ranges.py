@@ -1,6 +1,6 @@
-"""Checks what nodes.py states from memory against the trees and tables that `fast-check-ts input` makes, which come from TypeScript's compiler.
+"""Checks what nodes.py states from memory against the trees and tables that `fast-check-ts input --reader typescript` makes, which come from TypeScript's compiler.
 
-usage: node_ranges.py FILE ..      inputs of build, as `fast-check-ts input DIR` prints them; status 1 where something differs
+usage: node_ranges.py FILE ..      inputs of build, as it prints them; status 1 where something differs
 
 Each range of a declaration in the tables has to be the range of a node of the tree, by the rules of nodes.py. And the visitor sees the fields of a node in the order
 of the table: printed are the pairs of fields of which that is not the order of the text, with how often it is not.

@@ -3,8 +3,9 @@
 // Compares what `fast-check-source` answers of packages with what `fast-check build` answers of the input that tools/typescript makes of them. Scopes may have
 // other numbers.
 //
-//     tools/repo/compare_packages.js PROGRAM FAST_CHECK [--below | --files] FOLDER..
+//     tools/repo/compare_packages.js PROGRAM FAST_CHECK [--input] [--below | --files] FOLDER..
 //
+// With `--input` it compares the inputs themselves, member by member, but for what no rule can tell apart (`same_input.js`), and asks `fast-check build` nothing.
 // Each folder is a package, or a workspace; with `--below` each package below the folders, as `sweep.js` finds them. With `--files` packages are made of the
 // files below the folders that TypeScript's parser reads and that name no other module, as they are, each an entry point. One that TypeScript's compiler does not
 // read is not compared. The last line counts the folders and the modules whose answers are equal. The status is 1 where any answer differs.
@@ -18,33 +19,7 @@ const { whole: ts } = require('../typescript/src/compiler/typescript.js');
 const { packagesBelow } = require('../typescript/dev/sweep.js');
 const { main } = require('../typescript/src/cli/main.js');
 const { isMarked, restored } = require('../typescript/src/skeleton/restored.js');
-
-/** A value without the members that have their defaults, and without what no rule asks for: scopes of forms, places of comments. Scopes of names are numbered in the order of the members, but for 1 and 2. */
-function plain(value, numbers = new Map([[1, 1], [2, 2]])) {
-  if (Array.isArray(value)) return value.map((it) => plain(it, numbers));
-  if (value === null || typeof value !== 'object') return value;
-  const made = {};
-  for (const name of Object.keys(value).sort()) {
-    const each = value[name];
-    if (each === null || each === undefined || each === false || each === 0 || (Array.isArray(each) && each.length === 0)) continue;
-    if (name === 'span' && (value.kind === 'Line' || value.kind === 'Block')) continue;
-    if (name !== 'ctxt') made[name] = plain(each, numbers);
-    else if (typeof value.sym === 'string') made[name] = numbers.get(each) || numbers.set(each, numbers.size + 1).get(each);
-  }
-  return made;
-}
-
-/** The first place where two values differ, as the names that lead to it, or null. */
-function difference(mine, wanted, at = '') {
-  if (mine === wanted) return null;
-  const isObject = (it) => it !== null && typeof it === 'object';
-  if (!isObject(mine) || !isObject(wanted) || Array.isArray(mine) !== Array.isArray(wanted)) return { at, mine, wanted };
-  for (const name of new Set([...Object.keys(wanted), ...Object.keys(mine)])) {
-    const found = difference(mine[name], wanted[name], `${at}.${name}`);
-    if (found) return found;
-  }
-  return null;
-}
+const { compareInputs, difference, plain } = require('./same_input.js');
 
 const show = (value) => (JSON.stringify(value) || 'nothing').slice(0, 160);
 
@@ -79,7 +54,7 @@ function differences(answers, wanted) {
 /** What the front end makes of a folder: the input, or nothing and why. */
 async function inputOf(fastCheck, folder) {
   const io = { cwd: process.cwd(), environment: { ...process.env, FAST_CHECK: fastCheck }, out: new Text(), err: new Text() };
-  const status = await main(['input', folder, '--no-cache'], io);
+  const status = await main(['input', folder, '--no-cache', '--reader', 'typescript'], io);
   return { status, input: io.out.text.trim(), said: io.err.text.split('\n')[0] };
 }
 
@@ -103,20 +78,24 @@ async function compare(fastCheck, folder, mine) {
     return errors.length || mine.status === 2 ? said('both refuse') : said('mine alone reads', why);
   }
   if (!mine.line) return said('no answer', `${mine.status} ${mine.signal} ${mine.stderr.slice(0, 200)}`);
-  const { answers, errors } = JSON.parse(mine.line);
+  const { answers, input: asked, errors } = JSON.parse(mine.line);
   if (errors.length && status === 0) return said('mine alone refuses', show(errors));
+  if (asked) {
+    const { equal, differ, places } = compareInputs(asked, JSON.parse(input));
+    return { ...said(places.length ? 'differs' : 'equal', ...places.map((it) => `${it.name}${it.at}: mine ${show(it.mine)} wanted ${show(it.wanted)}`)), equal, differ };
+  }
   const wanted = answersOf(fastCheck, input);
   if (wanted === null) return said('the program answers nothing');
   const lines = differences(answers, wanted);
   return { ...said(lines.length ? 'differs' : 'equal', ...lines), equal: wanted.length - lines.length, differ: lines.length };
 }
 
-/** What the program says of each of some folders. */
-function told(program, folders) {
-  const { status, signal, stdout, stderr } = spawnSync(program, folders, { maxBuffer: 1 << 30, encoding: 'utf8' });
+/** What the program says of each of some folders, behind other words. */
+function told(program, words, folders) {
+  const { status, signal, stdout, stderr } = spawnSync(program, [...words, ...folders], { maxBuffer: 1 << 30, encoding: 'utf8' });
   const lines = stdout.split('\n').filter(Boolean);
   if (folders.length === 1) return [{ line: lines[0], status, signal, stderr }];
-  return lines.length === folders.length ? lines.map((line) => ({ line, status, signal, stderr })) : folders.flatMap((it) => told(program, [it]));
+  return lines.length === folders.length ? lines.map((line) => ({ line, status, signal, stderr })) : folders.flatMap((it) => told(program, words, [it]));
 }
 
 // How many packages of one file the program is asked of at once.
@@ -146,24 +125,25 @@ function packagesOf(files, top) {
   });
 }
 
-async function* compared(program, fastCheck, words) {
+async function* compared(program, fastCheck, before, words) {
   if (words[0] !== '--files') {
     const folders = words[0] === '--below' ? words.slice(1).flatMap((it) => packagesBelow(path.resolve(it))) : words;
-    for (const folder of folders) yield { ...await compare(fastCheck, folder, told(program, [folder])[0]), folder };
+    for (const folder of folders) yield { ...await compare(fastCheck, folder, told(program, before, [folder])[0]), folder };
     return;
   }
   const files = words.slice(1).flatMap((it) => filesBelow(path.resolve(it)));
   for (let at = 0; at < files.length; at += FILES) {
     const top = fs.mkdtempSync(path.join(os.tmpdir(), 'files-'));
     const folders = packagesOf(files.slice(at, at + FILES), top);
-    for (const [place, mine] of told(program, folders).entries()) yield { ...await compare(fastCheck, folders[place], mine), folder: files[at + place] };
+    for (const [place, mine] of told(program, before, folders).entries()) yield { ...await compare(fastCheck, folders[place], mine), folder: files[at + place] };
     fs.rmSync(top, { recursive: true });
   }
 }
 
-async function run([program, fastCheck, ...words]) {
+async function run([program, fastCheck, ...rest]) {
+  const at = rest[0] === '--input' ? 1 : 0;
   const [counts, modules] = [{}, { equal: 0, differ: 0 }];
-  for await (const { folder, kind, lines, equal, differ } of compared(program, fastCheck, words)) {
+  for await (const { folder, kind, lines, equal, differ } of compared(program, fastCheck, rest.slice(0, at), rest.slice(at))) {
     counts[kind] = (counts[kind] || 0) + 1;
     modules.equal += equal;
     modules.differ += differ;

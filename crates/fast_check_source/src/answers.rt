@@ -1,19 +1,21 @@
 //! What is answered of the modules of packages.
-use crate::follow::{Found, Parsed};
-use crate::members::{options_of, pending_of};
+use crate::follow::Found;
+use crate::members::{members_of, pending_of};
 use crate::world::{Names, answered, in_order, names_of};
 use anyhow::Result;
 use fast_check_build::answers::ModuleAnswer;
 use fast_check_build::build_fast_check_type_graph;
+use fast_check_source_input::{FALLBACK, Input, Parsed};
 use fast_check_source_mended::restored_skeleton;
 use fast_check_source_packages::resolve::Package;
 use fast_check_tables_diagnostics::parsed_source::FastCheckModule;
 use fast_check_tables_graph::{AnyModuleInfo, ModuleGraph, RootSymbol};
 use fast_check_tables_modules::EsModuleInfo;
-use fast_check_tables_packages::ListedPackages;
+use fast_check_tables_packages::{ListedPackages, PackageNv, WorkspaceMember};
 use fast_check_tables_symbols::ModuleTables;
+use fast_check_transform_module::TransformOptions;
 use std::alloc::{AllocError, Global};
-use std::collections::BTreeMap;
+use std::collections::{BTreeMap, VecDeque};
 use url::Url;
 
 // What each module answers itself, and whose names it exports again.
@@ -31,14 +33,13 @@ fn world_of(
 }
 
 // A module with the names that it answers.
-fn info_of(
+fn with_names(
     alloc: Global,
     world: &BTreeMap<Url, Names>,
     url: &Url,
     resolved: Option<&BTreeMap<String, Url>>,
     module: Parsed,
-) -> Result<AnyModuleInfo> {
-    let specifier = url.clone()?;
+) -> Result<Parsed, AllocError> {
     let resolved_exports = answered(alloc, world, url)?;
     let Parsed { source, tables } = module;
     let ModuleTables {
@@ -56,21 +57,31 @@ fn info_of(
         re_export_all_nodes,
         resolved_exports,
     };
-    let info = EsModuleInfo::new(alloc, specifier, source, tables)?;
-    Ok(AnyModuleInfo::Esm(info))
+    Ok(Parsed { source, tables })
 }
 
 // The modules, each with the names that it answers.
-fn infos_of(
+fn all_with_names(
     alloc: Global,
     modules: BTreeMap<Url, Parsed>,
     resolutions: &BTreeMap<Url, BTreeMap<String, Url>>,
-) -> Result<BTreeMap<Url, AnyModuleInfo>> {
+) -> Result<BTreeMap<Url, Parsed>, AllocError> {
     let world = world_of(alloc, &modules, resolutions)?;
     let mut made = BTreeMap::new(alloc);
     for (url, module) in modules {
-        let info = info_of(alloc, &world, &url, resolutions.get(&url), module)?;
-        let _ = made.insert(url, info)?;
+        let module = with_names(alloc, &world, &url, resolutions.get(&url), module)?;
+        let _ = made.insert(url, module)?;
+    }
+    Ok(made)
+}
+
+// The modules with their tables looked at.
+fn infos_of(alloc: Global, modules: BTreeMap<Url, Parsed>) -> Result<BTreeMap<Url, AnyModuleInfo>> {
+    let mut made = BTreeMap::new(alloc);
+    for (url, module) in modules {
+        let Parsed { source, tables } = module;
+        let info = EsModuleInfo::new(alloc, url.clone()?, source, tables)?;
+        let _ = made.insert(url, AnyModuleInfo::Esm(info))?;
     }
     Ok(made)
 }
@@ -116,41 +127,74 @@ fn all_in_own_words(
 }
 
 fn no_other_packages(alloc: Global) -> Result<ListedPackages> {
-    let fallback = Url::parse(alloc, "https://package.test/")?;
+    let fallback = Url::parse(alloc, FALLBACK)?;
     Ok(ListedPackages {
         packages: Vec::new(alloc),
         fallback,
     })
 }
 
-// What is answered of packages by the graph of their modules.
-fn answers_of(
+/// What is asked of packages, and the names of the files of modules that name themselves.
+pub fn input_of(
     alloc: Global,
     packages: &[&Package],
-    graph: &ModuleGraph,
-    root: &RootSymbol,
-) -> Result<Vec<ModuleAnswer>> {
-    let options = options_of(alloc, packages)?;
-    let provider = no_other_packages(alloc)?;
-    let pending = pending_of(alloc, packages)?;
-    let answers = build_fast_check_type_graph(
-        alloc, None, &provider, graph, root, pending, &options,
-    )?;
-    Ok(answers)
-}
-
-/// What is answered of the modules of packages.
-pub fn build(alloc: Global, packages: &[&Package], found: Found) -> Result<Vec<ModuleAnswer>> {
+    found: Found,
+) -> Result<(Input, BTreeMap<Url, String>)> {
     let Found {
         modules,
         graph,
         resolutions,
         own_names,
     } = found;
-    let infos = infos_of(alloc, modules, &resolutions)?;
+    let modules = all_with_names(alloc, modules, &resolutions)?;
+    let members = members_of(alloc, packages)?;
+    let pending = pending_of(alloc, packages)?;
+    let input = Input {
+        modules,
+        graph,
+        resolutions,
+        members,
+        pending,
+    };
+    Ok((input, own_names))
+}
+
+// What is answered of packages by the graph of their modules.
+fn answers_of(
+    alloc: Global,
+    graph: &ModuleGraph,
+    root: &RootSymbol,
+    workspace_members: Vec<WorkspaceMember>,
+    pending: VecDeque<PackageNv>,
+) -> Result<Vec<ModuleAnswer>> {
+    let options = TransformOptions {
+        workspace_members,
+        should_error_on_first_diagnostic: false,
+    };
+    let provider = no_other_packages(alloc)?;
+    let answers = build_fast_check_type_graph(
+        alloc, None, &provider, graph, root, pending, &options,
+    )?;
+    Ok(answers)
+}
+
+/// What is answered to it.
+pub fn build(
+    alloc: Global,
+    input: Input,
+    own_names: &BTreeMap<Url, String>,
+) -> Result<Vec<ModuleAnswer>> {
+    let Input {
+        modules,
+        graph,
+        resolutions,
+        members,
+        pending,
+    } = input;
+    let infos = infos_of(alloc, modules)?;
     let root = RootSymbol::new(infos, BTreeMap::new(alloc))?;
     let graph = ModuleGraph::from_parts(alloc, graph, resolutions, BTreeMap::new(alloc))?;
-    let answers = answers_of(alloc, packages, &graph, &root)?;
-    let answers = all_in_own_words(alloc, answers, &own_names)?;
+    let answers = answers_of(alloc, &graph, &root, members, pending)?;
+    let answers = all_in_own_words(alloc, answers, own_names)?;
     Ok(answers)
 }

@@ -9,6 +9,7 @@ use fast_check_source_configs::config::Messages;
 use fast_check_source_configs::tsconfig::Projects;
 use fast_check_source_files::files::{Files, name_of};
 use fast_check_source_files::messages::{Message, Places};
+use fast_check_source_input::Parsed;
 use fast_check_source_mended::{mended, short_tree};
 use fast_check_source_packages::resolve::{Package, is_relative, resolve};
 use fast_check_source_parser::{ParseError, parse_program};
@@ -16,19 +17,11 @@ use fast_check_source_scopes::with_scopes;
 use fast_check_source_tables::{tables_of, with_exports};
 use fast_check_tables_diagnostics::parsed_source::{MediaType, ParsedSource};
 use fast_check_tables_graph::Module;
-use fast_check_tables_symbols::ModuleTables;
 use fast_check_tree_syntax::{SyntaxContext, Tree};
 use std::alloc::{AllocError, Global};
 use std::collections::{BTreeMap, BTreeSet};
 use std::rc::RcStr;
 use url::Url;
-
-/// A module with its tables, without the names that others answer.
-#[derive(Drop)]
-pub struct Parsed {
-    pub source: ParsedSource,
-    pub tables: ModuleTables,
-}
 
 /// A text by which a module names another one.
 #[derive(Drop)]
@@ -52,6 +45,7 @@ pub struct ReadFile {
 /// What entry points lead to.
 #[derive(Drop)]
 pub struct Found {
+    /// Without the names that others answer.
     pub modules: BTreeMap<Url, Parsed>,
     pub graph: BTreeMap<Url, Module>,
     pub resolutions: BTreeMap<Url, BTreeMap<String, Url>>,

@@ -4,6 +4,7 @@ use fast_check_build::answers::ModuleAnswer;
 use fast_check_print::print_answers;
 use fast_check_source_configs::config::Messages;
 use fast_check_source_files::messages::Message;
+use fast_check_source_input::{Input, print_input};
 use fast_check_source_packages::exports::{Entry, Taken};
 use fast_check_source_packages::resolve::Package;
 use json::Writer;
@@ -108,18 +109,48 @@ fn print_files(out: &mut Writer, files: &[ReadFile]) -> Result<(), AllocError> {
     out.end_array()
 }
 
-/// The line of a folder: the answers, what is wrong, the packages, and the files that were read.
+/// What is told of the packages of a folder that can be read.
+#[derive(Drop)]
+pub enum Told {
+    Answers(Vec<ModuleAnswer>),
+    /// What `fast-check build` is asked of them.
+    Input(Input),
+}
+
+impl Told {
+    pub fn has_diagnostics(&self) -> bool {
+        match self {
+            Told::Answers(answers) => answers.iter().any(|answer| answer.1.is_err()),
+            Told::Input(_) => false,
+        }
+    }
+}
+
+fn print_told(alloc: Global, mut out: Writer, told: Told) -> Result<Writer, AllocError> {
+    match told {
+        Told::Answers(answers) => {
+            out.key("answers")?;
+            print_answers(alloc, &mut out, answers)?;
+            Ok(out)
+        }
+        Told::Input(input) => {
+            out.key("input")?;
+            print_input(alloc, out, &input)
+        }
+    }
+}
+
+/// The line of a folder: what is told of its packages, what is wrong, the packages, and the files that were read.
 pub fn line_of(
     alloc: Global,
-    answers: Vec<ModuleAnswer>,
+    told: Told,
     messages: &Messages,
     packages: &[Package],
     files: &[ReadFile],
 ) -> Result<String, AllocError> {
     let mut out = Writer::new(Vec::new(alloc));
     out.begin_object()?;
-    out.key("answers")?;
-    print_answers(alloc, &mut out, answers)?;
+    let mut out = print_told(alloc, out, told)?;
     out.key("errors")?;
     print_messages(&mut out, messages.errors.as_slice())?;
     out.key("faults")?;

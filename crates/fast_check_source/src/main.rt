@@ -1,7 +1,7 @@
-//! `fast-check-source [--text PATH FILE].. DIR ..`: reads the packages of each folder, and answers what `fast-check build` answers of them: a skeleton or the
-//! diagnostics of each of their public modules, with what is wrong with their files, the packages, and the files that were read, as a line of JSON. The status is 2
-//! where a package cannot be read, and else 1 where a module has diagnostics. In all folders behind `--text PATH FILE` the file at the path PATH from the folder has
-//! the text of FILE, where it is there.
+//! `fast-check-source [--input] [--text PATH FILE].. DIR ..`: reads the packages of each folder, and answers what `fast-check build` answers of them: a skeleton or
+//! the diagnostics of each of their public modules, with what is wrong with their files, the packages, and the files that were read, as a line of JSON. The status
+//! is 2 where a package cannot be read, and else 1 where a module has diagnostics. Of the folders behind `--input` it tells what `fast-check build` is asked, in
+//! place of the answers. In all folders behind `--text PATH FILE` the file at the path PATH from the folder has the text of FILE, where it is there.
 #![tactic(auto)]
 
 ghost use Rattle.std.specs.Prelude.{◌≡◌, ◌≢◌, IsTrue, vec_len};
@@ -15,11 +15,10 @@ mod sources;
 mod urls;
 mod world;
 
-use crate::answers::build;
+use crate::answers::{build, input_of};
 use crate::follow::{Found, modules_of};
-use crate::lines::line_of;
+use crate::lines::{Told, line_of};
 use anyhow::Result;
-use fast_check_build::answers::ModuleAnswer;
 use fast_check_source_configs::config::Messages;
 use fast_check_source_configs::tsconfig::Projects;
 use fast_check_source_files::files::{Files, Text};
@@ -80,39 +79,35 @@ fn status_of(messages: &Messages, has_diagnostics: bool) -> u8
     }
 }
 
-// What is answered of the packages of a folder that can be read.
-fn answers_of_readable(
-    alloc: Global,
-    packages: &[Package],
-    found: Found,
-    errors: &[Message],
-) -> Result<Vec<ModuleAnswer>> {
-    let packages = readable(alloc, packages, errors)?;
-    if packages.is_empty() {
-        return Ok(Vec::new(alloc));
+// What is told of the packages of a folder that can be read.
+fn told_of(alloc: Global, packages: &[&Package], found: Found, asks_input: bool) -> Result<Told> {
+    let (input, own_names) = input_of(alloc, packages, found)?;
+    if asks_input {
+        return Ok(Told::Input(input));
     }
-    build(alloc, packages.as_slice(), found)
+    if packages.is_empty() {
+        return Ok(Told::Answers(Vec::new(alloc)));
+    }
+    Ok(Told::Answers(build(alloc, input, &own_names)?))
 }
 
 // What is answered of a folder: a line, and the status.
-fn answer(rt: &HostRuntime, folder: &str, texts: &[Text]) -> Result<(String, u8)> {
+fn answer(
+    rt: &HostRuntime,
+    folder: &str,
+    texts: &[Text],
+    asks_input: bool,
+) -> Result<(String, u8)> {
     let alloc = rt.alloc();
     let files = Files::new(rt, folder, texts)?;
     let mut messages = Messages::new(alloc);
     let mut projects = Projects::new(alloc);
     let packages = packages_of(&files, &mut projects, &mut messages)?;
     let (found, read, messages) = modules_of(&files, packages.as_slice(), projects, messages)?;
-    let errors = messages.errors.as_slice();
-    let answers = answers_of_readable(alloc, packages.as_slice(), found, errors)?;
-    let has_diagnostics = answers.iter().any(|answer| answer.1.is_err());
-    let status = status_of(&messages, has_diagnostics);
-    let line = line_of(
-        alloc,
-        answers,
-        &messages,
-        packages.as_slice(),
-        read.as_slice(),
-    )?;
+    let asked = readable(alloc, packages.as_slice(), messages.errors.as_slice())?;
+    let told = told_of(alloc, asked.as_slice(), found, asks_input)?;
+    let status = status_of(&messages, told.has_diagnostics());
+    let line = line_of(alloc, told, &messages, packages.as_slice(), read.as_slice())?;
     Ok((line, status))
 }
 
@@ -128,12 +123,15 @@ fn main(rt: HostRuntime) -> Result<ExitCode> {
     let _ = words.next();
     let mut texts = Vec::new(rt.alloc());
     let mut status = 0;
+    let mut asks_input = false;
     for _turn in 0..u64::MAX {
         let Some(word) = words.next() else {
             break;
         };
-        if word.as_str() != "--text" {
-            let (line, own) = answer(&rt, word.as_str(), texts.as_slice())?;
+        if word.as_str() == "--input" {
+            asks_input = true;
+        } else if word.as_str() != "--text" {
+            let (line, own) = answer(&rt, word.as_str(), texts.as_slice(), asks_input)?;
             println!(rt; "{line}")?;
             status = own.max(status);
         } else if let Some(text) = text_of(&mut words) {

@@ -4,7 +4,6 @@ use anyhow::Result;
 use fast_check_source_files::files::joined;
 use fast_check_source_packages::resolve::Package;
 use fast_check_tables_packages::{PackageNv, WorkspaceMember};
-use fast_check_transform_module::TransformOptions;
 use indexmap::IndexMap;
 use semver::Version;
 use std::alloc::{AllocError, Global};
@@ -65,8 +64,8 @@ fn member_of(alloc: Global, package: &Package) -> Result<WorkspaceMember> {
     })
 }
 
-// The members of the workspace. The innermost member around a file stands before those around it.
-fn members_of(alloc: Global, packages: &[&Package]) -> Result<Vec<WorkspaceMember>> {
+/// The members of the workspace. The innermost member around a file stands before those around it.
+pub fn members_of(alloc: Global, packages: &[&Package]) -> Result<Vec<WorkspaceMember>> {
     let mut by_length = BTreeMap::new(alloc);
     for (place, package) in packages.iter().enumerate() {
         let length = usize::MAX.saturating_sub(package.folder.len());
@@ -89,12 +88,4 @@ pub fn pending_of(alloc: Global, packages: &[&Package]) -> Result<VecDeque<Packa
         pending.push_back(PackageNv { name, version })?;
     }
     Ok(pending)
-}
-
-/// The options of a build of packages.
-pub fn options_of(alloc: Global, packages: &[&Package]) -> Result<TransformOptions> {
-    Ok(TransformOptions {
-        workspace_members: members_of(alloc, packages)?,
-        should_error_on_first_diagnostic: false,
-    })
 }

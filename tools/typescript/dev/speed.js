@@ -89,10 +89,11 @@ function measured(/** @type {Row} */ row, /** @type {Version[]} */ versions, /**
   return all.map((times) => `${median(times.map((it) => it.seconds))} (${median(times.map((it) => it.processor))})`);
 }
 
-/** The megabytes of the program's input. */
+/** The megabytes of the program's input, as the compiler's reader makes it, which is the only one of an older version. */
 function inputOf(/** @type {Version} */ { launcher, kept }, /** @type {string} */ folder) {
   const env = { ...process.env, XDG_CACHE_HOME: kept };
-  const { stdout } = childProcess.spawnSync(launcher, ['input', folder], { env, maxBuffer: 1 << 30, stdio: ['ignore', 'pipe', 'inherit'] });
+  const reader = path.dirname(launcher) === own ? ['--reader', 'typescript'] : [];
+  const { stdout } = childProcess.spawnSync(launcher, ['input', ...reader, folder], { env, maxBuffer: 1 << 30, stdio: ['ignore', 'pipe', 'inherit'] });
   return `${(stdout.length / 1e6).toFixed(1)} MB`;
 }
 

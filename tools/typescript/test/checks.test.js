@@ -281,7 +281,7 @@ function keeping() {
   const all = fs.readdirSync(PACKAGES);
   const said = async (/** @type {string} */ name, /** @type {NodeJS.ProcessEnv} */ environment, commands = [['check', '--json', '--list-externals'], ['skeleton'], ['input']]) => {
     const parts = [];
-    for (const words of commands) parts.push(JSON.stringify(await run([...words, ...(words[0] === 'input' ? [] : ['--reader', 'typescript']), name], { environment })));
+    for (const words of commands) parts.push(JSON.stringify(await run([...words, '--reader', 'typescript', name], { environment })));
     return parts.join('\n');
   };
   return [

@@ -84,7 +84,7 @@ test('a run over unchanged sources loads no compiler', () => withFolder(async (f
   const environment = { TYPESCRIPT: own, XDG_CACHE_HOME: path.join(folder, 'cache') };
   // Of `check` the whole answer is kept, of `input` what the compiler answers: where imports lead, by aliases too, and which packages a workspace has.
   for (const [command, name] of [['check', 'classes'], ['input', 'aliases'], ['input', 'npm-workspace'], ['input', 'file-kinds']]) {
-    const asked = () => childProcess.spawnSync(LAUNCHER, [command, path.join(PACKAGES, name)], { encoding: 'utf8', input: '', env: { ...process.env, ...environment } });
+    const asked = () => childProcess.spawnSync(LAUNCHER, [command, '--reader', 'typescript', path.join(PACKAGES, name)], { encoding: 'utf8', input: '', env: { ...process.env, ...environment } });
     fs.rmSync(log, { force: true });
     const first = asked();
     same(readOr(log, ''), 'loaded\n', `what is loaded at first by\n${first.stdout.slice(0, 200)}${first.stderr}\nwhich`);

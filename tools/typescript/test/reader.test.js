@@ -1,11 +1,13 @@
 'use strict';
 // `--reader source`: beside the other reader, with the program itself; and with a program in its place that prints the lines which the gate compares the proved one's with.
+const assert = require('assert');
 const childProcess = require('child_process');
 const fs = require('fs');
 const os = require('os');
 const path = require('path');
 const { after, test } = require('node:test');
 const { sourceProgramFile } = require('../src/program/program.js');
+const { isMarked, restored } = require('../src/skeleton/restored.js');
 const { run, same, holds, readOr, untimed, withFolder, write, LAUNCHER, PACKAGES, TOP } = require('./support/helpers.js');
 const { NAMES: STORED, NEWER, READS_NONE, expectedOf, withoutClosing } = require('./support/stored.js');
 
@@ -13,11 +15,12 @@ const PROGRAM = sourceProgramFile(process.env);
 const skip = !PROGRAM && 'fast-check-source is not built';
 
 const CRATE = path.join(TOP, 'crates/fast_check_source');
-// The folders that the gate names, without the words that name texts.
-const NAMES = fs.readFileSync(path.join(CRATE, 'args'), 'utf8').replace(/^--text\n.*\n.*\n/gm, '').trim().split('\n');
+// The folders of the stored run, the last one behind `--input`, without the words that name texts.
+const NAMES = fs.readFileSync(path.join(CRATE, 'args'), 'utf8').replace(/^--text\n.*\n.*\n/gm, '').trim().split('\n').filter((it) => it !== '--input');
+const INPUT = '[ "$1" = --input ] && [ "${2##*/}" = package ] && tail -n 1 stdout';
 
 /** Runs words in the folder of the crate's data, with a program that prints what is wanted of a folder. */
-function runThere(/** @type {string[]} */ words, body = 'sed -n "$(grep -nx "${1##*/}" args | cut -d : -f 1)p" stdout') {
+function runThere(/** @type {string[]} */ words, body = 'sed -n "$(grep -m 1 -nx "${1##*/}" args | cut -d : -f 1)p" stdout') {
   return new Promise((resolve, reject) => withFolder(async (folder) => {
     const program = path.join(folder, 'program');
     fs.writeFileSync(program, `#!/bin/sh\ncd ${CRATE} && ${body}\n`, { mode: 0o755 });
@@ -41,11 +44,24 @@ test('skeleton --reader source', async () => {
   same(status, 0, 'the status');
   holds(out.includes('// src/index.ts\n') && out.includes('export const shapes: Shape[]'), out);
 });
+test('input --reader source', async () => {
+  const { status, out } = await runThere(['input', '--reader', 'source', 'package'], INPUT);
+  same(status, 0, 'the status');
+  const { modules, pending } = JSON.parse(out);
+  same(modules.map((/** @type {[string, unknown]} */ [specifier]) => specifier).join(' '), 'file:///src/index.ts file:///src/shapes.ts');
+  same(pending.length, 1, 'how many packages are handed in');
+});
 const REFUSED = '{"answers":[],"errors":[{"path":"mod.ts","line":1,"column":8,"code":"syntax-error","message":"this cannot stand here"}],"faults":[],"warnings":[],"packages":[],"files":[]}';
 test('what the program refuses the compiler reads', async () => {
   const { status, out } = await runThere(['check', '--reader', 'source', 'other'], `echo '${REFUSED}'; exit 2`);
   same(status, 1, 'the status');
   holds(out.includes('error[missing-explicit-return-type]'), out);
+});
+test('input of what the program refuses is that of the compiler', async () => {
+  const body = `echo '${REFUSED.replace('"answers":[]', '"input":{"graph":{},"modules":[]}')}'; exit 2`;
+  const [own, other] = [await runThere(['input', '--reader', 'source', 'other'], body), await runThere(['input', '--reader', 'typescript', 'other'], body)];
+  same(own.status, 0, 'the status');
+  same(own.out, other.out);
 });
 test('a program that fails', async () => {
   const { status, err } = await runThere(['check', '--reader', 'source', 'other'], 'echo "error: out of memory" >&2; exit 3');
@@ -73,7 +89,7 @@ test('a program of another version', async () => {
 
 // ---- which reader it is
 
-for (const words of [['check', 'other'], ['skeleton', 'other'], ['diff', 'other', 'other']]) {
+for (const words of [['check', 'other'], ['skeleton', 'other'], ['diff', 'other', 'other'], ['input', 'other']]) {
   test(`${words[0]} reads by the program where it is there`, async () => {
     const body = 'echo "error: out of memory" >&2; exit 3';
     same((await runThere(words, body)).status, 3, 'the status');
@@ -169,6 +185,31 @@ test('a package that is nested deep is read', { skip }, async () => {
   holds(own.startsWith('status 0\n'), own);
 });
 
+// ---- what `fast-check build` is asked
+
+/** What the program prints for folders behind some words, and what it prints for them behind `--input`. */
+function linesAndInputs(/** @type {string[]} */ folders) {
+  const { stdout } = childProcess.spawnSync(PROGRAM || '', [...folders, '--input', ...folders], { encoding: 'utf8', maxBuffer: 1 << 30 });
+  const lines = stdout.trimEnd().split('\n').map((it) => JSON.parse(it));
+  same(lines.length, 2 * folders.length, 'how many lines come');
+  return folders.map((_, at) => ({ line: lines[at], input: lines[folders.length + at].input }));
+}
+
+/** What `fast-check build` answers to an input in a file, by the words of its sources. */
+function builtOf(/** @type {import('../src/program/types').Request} */ input, /** @type {string} */ file) {
+  fs.writeFileSync(file, JSON.stringify(input));
+  const { stdout, stderr } = childProcess.spawnSync(process.env.FAST_CHECK || '', ['build', file], { encoding: 'utf8', maxBuffer: 1 << 28 });
+  const modules = input.modules.map(([specifier, { Esm: it }]) => ({ specifier, parts: it && { marks: { isMarked: isMarked(JSON.stringify(it.source)) } } }));
+  return stdout ? restored(JSON.parse(stdout), input, /** @type {import('../src/package/types').Module[]} */ (modules)) : stderr;
+}
+
+test('build answers to the input what the program answers', { skip }, () => withFolder((folder) => {
+  const names = STORED.filter((it) => it !== 'deep');
+  for (const [at, { line, input }] of linesAndInputs(names.map((it) => path.join(PACKAGES, it))).entries()) {
+    assert.deepStrictEqual(builtOf(input, path.join(folder, 'input.json')), line.answers, names[at]);
+  }
+}));
+
 // ---- without a compiler
 
 /** Runs the launcher where no compiler can be found. */
@@ -178,6 +219,13 @@ function runWithout(/** @type {string[]} */ words, /** @type {string} */ cwd) {
   return { status, out: untimed(stdout), err: stderr };
 }
 
+for (const name of ['classes', 're-exports', 'workspace']) {
+  test(`the input of ${name} needs no compiler`, { skip }, () => {
+    const { status, out, err } = runWithout(['input'], path.join(PACKAGES, name));
+    same(`${status} ${err}`, '0 ');
+    same(out, `${JSON.stringify(linesAndInputs([path.join(PACKAGES, name)])[0].input)}\n`);
+  });
+}
 for (const name of ['classes', 're-exports', 'workspace', 'single-returns', 'widened-literals', 'missing-type']) {
   test(`${name} needs no compiler`, { skip }, async () => {
     const { status, out, err } = runWithout(['check'], path.join(PACKAGES, name));
@@ -242,7 +290,7 @@ test('serve answers lines that come together as it answers each', { skip }, () =
 }));
 test('serve answers each folder where the program fails on all together', () => withFolder((folder) => {
   const program = path.join(folder, 'program');
-  fs.writeFileSync(program, `#!/bin/sh\n[ $# = 1 ] || exit 3\ncd ${CRATE} && sed -n "$(grep -nx "\${1##*/}" args | cut -d : -f 1)p" stdout\n`, { mode: 0o755 });
+  fs.writeFileSync(program, `#!/bin/sh\n[ $# = 1 ] || exit 3\ncd ${CRATE} && sed -n "$(grep -m 1 -nx "\${1##*/}" args | cut -d : -f 1)p" stdout\n`, { mode: 0o755 });
   const input = ['other', 'package'].map((it) => `${JSON.stringify({ dir: path.join(CRATE, 'data', it) })}\n`).join('');
   const { stdout } = childProcess.spawnSync(LAUNCHER, ['serve'], { input, encoding: 'utf8', env: { ...process.env, FAST_CHECK_SOURCE: program } });
   same(stdout.trim().split('\n').map((it) => JSON.parse(it).status).join(' '), '1 0', 'the statuses');

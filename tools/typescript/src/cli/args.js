@@ -12,7 +12,7 @@ const FORMATS = ['text', 'json', 'github', 'sarif', 'junit', 'badge'];
 const RULES = ['deno'];
 const READERS = ['typescript', 'source'];
 // Commands that read by the program that reads TypeScript, where it is there and nothing else is asked for.
-const BY_EITHER = ['check', 'skeleton', 'diff'];
+const BY_EITHER = ['check', 'skeleton', 'diff', 'input'];
 // Options that need what this tool reads by itself.
 const BY_TYPESCRIPT = ['name', 'version', 'exports', 'rules', 'verify', 'dts', 'withDts', 'watch'];
 // Those that are one document, which a run that goes on has no end of.

@@ -85,8 +85,8 @@ const OPTIONS = [
   },
   { word: '--rules', value: 'RULES', key: 'rules', commands: ['check'], text: 'check: deno reports what deno_graph 0.111.1 does, for which a single return names no return type' },
   {
-    word: '--reader', value: 'READER', key: 'reader', commands: ['check', 'skeleton', 'diff'],
-    text: "check, skeleton and diff: source reads TypeScript by a program that is proved, which is usual where nothing is kept, and typescript by TypeScript's compiler",
+    word: '--reader', value: 'READER', key: 'reader', commands: ['check', 'skeleton', 'diff', 'input'],
+    text: "check, skeleton, diff and input: source reads TypeScript by a program that is proved, which is usual where nothing is kept, and typescript by TypeScript's compiler",
   },
   { word: '--only', key: 'only', commands: ['check'], text: 'check: take the words for files, and report the messages of these alone, by the entry points of their packages' },
   { word: '--fix', key: 'fix', commands: ['check'], text: "check: write the types that TypeScript's compiler infers first, as the command fix does" },

@@ -6,12 +6,11 @@ const { folderOf, statusOf, writeMessages } = require('./shared.js');
 /** @typedef {import('../cli/types').Options} Options */
 
 async function input(/** @type {string[]} */ [word], /** @type {Options} */ options, /** @type {Context} */ context) {
-  const { requestText } = require('../program/request.js');
-  const { read } = require('../program/answer.js');
-  const { request, broken } = read(folderOf(word, context), options, context);
+  const { requestOf } = require('../program/answer.js');
+  const { text, broken } = await requestOf(folderOf(word, context), options, context);
   context.progress.end();
   writeMessages(broken, {}, { out: context.err, paint: context.paintErrors });
-  context.out.write(`${requestText(request)}\n`);
+  context.out.write(`${text}\n`);
   return statusOf({ broken }, []);
 }
 

@@ -2,7 +2,7 @@
 // From a folder to what the program answers of it: skeletons by module, or messages with their places.
 const fs = require('fs');
 const path = require('path');
-const { readBySource, textOf } = require('./by-source.js');
+const { inputBySource, readBySource, textOf } = require('./by-source.js');
 const { EITHER, sourceProgramFile } = require('./program.js');
 const { ProgramError, lineOf } = require('./run.js');
 const { INTERNAL } = require('../cli/exit.js');
@@ -14,7 +14,7 @@ const { inputOf } = require('./input.js');
 const { LastAnswer } = require('./last-answer.js');
 const { restored } = require('../skeleton/restored.js');
 const { Lines } = require('../tree/lines.js');
-const { withTreesOf } = require('./request.js');
+const { requestText, withTreesOf } = require('./request.js');
 const { variantOf } = require('../tree/walk.js');
 const { previewOf } = require('./preview.js');
 const { skeletonMessages } = require('../skeleton/messages.js');
@@ -370,10 +370,8 @@ function sourceProgram(/** @type {string} */ dir, /** @type {AnalyseOptions} */ 
  * @returns {Promise<World>}
  */
 async function analyseBySource(program, dir, options, context) {
-  const { cwd } = context;
   const { answers, told, info, request } = await readBySource(program, dir, options, context);
-  const note = () => options.kept && options.kept.noteForCompiler(path.resolve(dir), isLasting(options));
-  if (told.files.length > (isLasting(options) ? MANY : MANY_EDITED)) note();
+  if (told.files.length > (isLasting(options) ? MANY : MANY_EDITED)) noteForCompiler(dir, options);
   /** @type {World | null} */
   let own = null;
   if (info) {
@@ -381,15 +379,55 @@ async function analyseBySource(program, dir, options, context) {
     own = { ...withAnswers(read, answers, context), isBySource: true };
     if (!options.preview || own.messages.every(({ level }) => level === 'Warning')) return own;
   }
-  note();
+  noteForCompiler(dir, options);
   try {
     return await analyseByCompiler(dir, options, context);
   } catch (error) {
-    const { code } = /** @type {import('../cli/types').KnownError} */ (error);
-    if (own && (code === NO_COMPILER || error instanceof ReadError)) return own;
-    if (code !== NO_COMPILER) throw error;
-    throw new ReadError(`${shownName(dir, cwd)} cannot be read`, saidMessages(told, dir, options, cwd));
+    if (own && (isNoCompiler(error) || error instanceof ReadError)) return own;
+    throw isNoCompiler(error) ? saidError(told, dir, options, context) : error;
   }
+}
+
+/** The request of a folder as JSON, by the compiler's reader, and why packages of it cannot be read. */
+function requestByCompiler(/** @type {string} */ dir, /** @type {AnalyseOptions} */ options, /** @type {RunContext} */ context) {
+  const { request, broken } = read(dir, options, context);
+  return { text: requestText(request), broken };
+}
+
+/**
+ * The same by the reader that is to read the folder.
+ *
+ * @param {string} dir
+ * @param {AnalyseOptions} options
+ * @param {RunContext} context
+ * @returns {Promise<{ text: string, broken: Message[] }>}
+ */
+async function requestOf(dir, options, context) {
+  const program = sourceProgram(dir, options, context);
+  if (!program) return requestByCompiler(dir, options, context);
+  const { input, told } = await inputBySource(program, dir, options, context);
+  if (input === null || told.files.length > MANY) noteForCompiler(dir, options);
+  if (input !== null) return { text: input, broken: [] };
+  try {
+    return requestByCompiler(dir, options, context);
+  } catch (error) {
+    throw isNoCompiler(error) ? saidError(told, dir, options, context) : error;
+  }
+}
+
+/** Has the compiler read a folder from the next run on. */
+function noteForCompiler(/** @type {string} */ dir, /** @type {AnalyseOptions} */ options) {
+  const { kept } = options;
+  if (kept) kept.noteForCompiler(path.resolve(dir), isLasting(options));
+}
+
+function isNoCompiler(/** @type {unknown} */ error) {
+  return /** @type {import('../cli/types').KnownError} */ (error).code === NO_COMPILER;
+}
+
+/** The error of a folder that cannot be read, in the program's own words. */
+function saidError(/** @type {import('./by-source.js').Told} */ told, /** @type {string} */ dir, /** @type {AnalyseOptions} */ options, /** @type {RunContext} */ { cwd }) {
+  return new ReadError(`${shownName(dir, cwd)} cannot be read`, saidMessages(told, dir, options, cwd));
 }
 
 /** What the program says of a folder, as messages. */
@@ -416,4 +454,4 @@ function statusOf(/** @type {Message[]} */ broken) {
   return broken.length ? 2 : 0;
 }
 
-module.exports = { analyse, answersTo, filesOf, packageOf, part, read, shownName, statusOf };
+module.exports = { analyse, answersTo, filesOf, packageOf, part, requestOf, shownName, statusOf };

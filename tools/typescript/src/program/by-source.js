@@ -3,6 +3,7 @@
 const fs = require('fs');
 const path = require('path');
 const { answersOf } = require('./answers.js');
+const { tooDeep } = require('./input.js');
 const { ProgramError, run, withFolder } = require('./run.js');
 const { NO_COMPILER } = require('../compiler/find.js');
 const { configOf, described, settingsOf } = require('../package/config.js');
@@ -27,16 +28,16 @@ const { Lines } = require('../tree/lines.js');
 const FILE = 'file:///';
 // What the compiler reads as a fault and the program does not: a parameter with a question mark and a value.
 const FAULT = /[\w$]\?\s*(?::[^=;\n{},)]*)?=(?![=>])/;
-// What stands behind the answers in the program's line. No text has an unescaped quotation mark.
-const [HEAD, REST] = ['{"answers":', ',"errors":['];
+// What stands before what is asked of the program in its line, and behind it. No text has an unescaped quotation mark.
+const [ANSWERS, INPUT, REST] = ['{"answers":', '{"input":', ',"errors":['];
 
-/** The line of the program in two parts: what it answers, and what it says besides. */
-function parted(/** @type {string} */ line) {
+/** The line of the program in two parts: what is asked of it, as JSON behind a head, and what it says besides. */
+function parted(/** @type {string} */ line, /** @type {string} */ head) {
   const end = line.indexOf(REST);
   /** @type {Told | null} */
-  const told = line.startsWith(HEAD) && end >= 0 ? JSON.parse(`{${line.slice(end + 1)}`) : null;
+  const told = line.startsWith(head) && end >= 0 ? JSON.parse(`{${line.slice(end + 1)}`) : null;
   if (!told || !told.packages || !told.files) throw new ProgramError('the program did not answer: it is of another version, and writes other lines', 5);
-  return { answers: answersOf(line.slice(HEAD.length, end)), told };
+  return { text: line.slice(head.length, end), told };
 }
 
 /**
@@ -101,11 +102,13 @@ function runOn(/** @type {string} */ program, /** @type {string} */ dir, /** @ty
 /** The line that the program prints for a folder. */
 async function lineOf(/** @type {string} */ program, /** @type {string} */ dir, /** @type {[file: string, text: string][]} */ unsaved, /** @type {RunContext} */ context) {
   const known = ahead.get(dir);
-  if (known !== undefined) {
-    ahead.delete(dir);
-    return known;
-  }
-  const { status, out, said, signal } = await context.progress.during('the program is at work', runOn(program, dir, unsaved, context));
+  ahead.delete(dir);
+  return known === undefined ? lineBy(runOn(program, dir, unsaved, context), context) : known;
+}
+
+/** The line that a run of the program on a folder prints. */
+async function lineBy(/** @type {ReturnType<typeof run>} */ begun, /** @type {RunContext} */ { progress }) {
+  const { status, out, said, signal } = await progress.during('the program is at work', begun);
   if (status <= 2 && out.trim()) return /** @type {string} */ (out.trimEnd());
   const why = said || (signal ? `it was stopped by ${signal}` : `it ended with status ${status}`);
   throw new ProgramError(`the program did not answer: ${why.replace(/^error: /, '')}`, status > 2 && status <= 5 ? status : 5);
@@ -238,12 +241,32 @@ function requestOf(/** @type {import('../package/types').Resolution[]} */ resolu
 async function readBySource(program, dir, options, context) {
   const begun = Date.now();
   const unsaved = unsavedIn(path.resolve(dir), options.texts);
-  const { answers, told } = parted(await lineOf(program, dir, unsaved, context));
+  const { text, told } = parted(await lineOf(program, dir, unsaved, context), ANSWERS);
   const reading = context.reading || ((/** @type {() => Folder} */ call) => call());
   const folder = reading(() => new Folder(dir, told, options));
   if (context.beside) context.beside(folder.root, begun);
   const isRead = !folder.needsWords && !hasPassedOver(folder, options);
-  return { answers, told, info: isRead ? folder.info : null, request: requestOf(folder.resolutions) };
+  return { answers: answersOf(text), told, info: isRead ? folder.info : null, request: requestOf(folder.resolutions) };
 }
 
-module.exports = { readAhead, readBySource, textOf };
+/** Whether a module of a request is nested too deep for the program that is asked. */
+function hasTooDeep(/** @type {import('./types').Request} */ { modules }) {
+  return modules.some(([, { Esm }]) => Esm && tooDeep(/** @type {forms.Part} */ (/** @type {import('./types').Source} */ (Esm.source).program)));
+}
+
+/**
+ * The request that the program makes of a folder, as JSON, and what it says besides. Where the compiler says what is wrong with the folder, it is null.
+ *
+ * @param {string} program
+ * @param {string} dir
+ * @param {AnalyseOptions} options
+ * @param {RunContext} context
+ */
+async function inputBySource(program, dir, options, context) {
+  const begun = run([program, '--input', dir], (line) => context.progress.line(line), context.signal);
+  const { text, told } = parted(await lineBy(begun, context), INPUT);
+  const isRead = !new Folder(dir, told, options).needsWords && !hasTooDeep(JSON.parse(text));
+  return { input: isRead ? text : null, told };
+}
+
+module.exports = { inputBySource, readAhead, readBySource, textOf };

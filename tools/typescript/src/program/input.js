@@ -164,4 +164,4 @@ function inputOf(/** @type {string} */ dir, /** @type {ReadOptions} */ options =
   return { request, info: { packages, entryPoints, modules, scripts, jsonModules, externals, missing, errors, faults, taken, times } };
 }
 
-module.exports = { inputOf };
+module.exports = { inputOf, tooDeep };

@@ -7,10 +7,12 @@ const path = require('path');
 const { describe, it } = require('node:test');
 
 const { inputOf } = require('../../src/program/input.js');
+const { sourceProgramFile } = require('../../src/program/program.js');
 const { requestText } = require('../../src/program/request.js');
 const { run, PACKAGES } = require('../support/helpers.js');
 
 const TOP = path.resolve(__dirname, '../../../..');
+const SOURCE_PROGRAM = sourceProgramFile(process.env);
 const TOOL = path.resolve(__dirname, '../../bin/fast-check-ts.js');
 /** @typedef {((value: unknown) => boolean) & { errors: object[] }} Validate */
 /** @typedef {{ getSchema(name: string): Validate | undefined, compile(schema: object): Validate, errorsText(errors: object[]): string }} Checker */
@@ -51,6 +53,14 @@ describe('schemas', { skip: Ajv ? false : "Debian's node-ajv is not there" }, ()
       const input = request && JSON.parse(requestText(request));
       if (input) assert.strictEqual(wrong('program.json#/definitions/BuildInput', input), null, name);
     }
+  });
+
+  it('fit what the program that reads folders asks of each of them', { skip: !SOURCE_PROGRAM && 'fast-check-source is not built' }, () => {
+    const names = fs.readdirSync(PACKAGES).filter((name) => name !== 'deep');
+    const { stdout } = childProcess.spawnSync(SOURCE_PROGRAM || '', ['--input', ...names.map((name) => path.join(PACKAGES, name))], { encoding: 'utf8', maxBuffer: 1 << 30 });
+    const inputs = objects(stdout);
+    assert.strictEqual(inputs.length, names.length);
+    for (const [at, { input }] of inputs.entries()) assert.strictEqual(wrong('program.json#/definitions/BuildInput', input), null, names[at]);
   });
 
   it('refuse what is none', () => {
