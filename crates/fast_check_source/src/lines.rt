@@ -4,109 +4,100 @@ use fast_check_build::answers::ModuleAnswer;
 use fast_check_print::print_answers;
 use fast_check_source_configs::config::Messages;
 use fast_check_source_files::messages::Message;
-use fast_check_source_input::{Input, print_input};
+use fast_check_source_input::{Input, Json, print_input};
 use fast_check_source_packages::exports::{Entry, Taken};
 use fast_check_source_packages::resolve::Package;
 use json::Writer;
 use std::alloc::{AllocError, Global};
 
-fn print_message(out: &mut Writer, message: &Message) -> Result<(), AllocError> {
-    out.begin_object()?;
-    out.key("path")?;
-    out.string(message.path.as_str())?;
-    out.key("line")?;
-    out.u64(message.line as u64)?;
-    out.key("column")?;
-    out.u64(message.column as u64)?;
-    out.key("code")?;
-    out.string(message.code)?;
-    out.key("message")?;
-    out.string(message.text.as_str())?;
-    out.end_object()
+fn print_message(out: &mut Json, message: &Message) {
+    out.begin_object();
+    out.named("path", message.path.as_str());
+    out.key("line");
+    out.number(message.line as u64);
+    out.key("column");
+    out.number(message.column as u64);
+    out.named("code", message.code);
+    out.named("message", message.text.as_str());
+    out.end_object();
 }
 
-fn print_messages(out: &mut Writer, messages: &[Message]) -> Result<(), AllocError> {
-    out.begin_array()?;
+fn print_messages(out: &mut Json, name: &str, messages: &[Message]) {
+    out.key(name);
+    out.begin_array();
     for message in messages {
-        print_message(out, message)?;
+        print_message(out, message);
     }
-    out.end_array()
+    out.end_array();
 }
 
-fn print_entries(out: &mut Writer, entries: &[Entry]) -> Result<(), AllocError> {
-    out.begin_array()?;
+fn print_entries(out: &mut Json, entries: &[Entry]) {
+    out.begin_array();
     for entry in entries {
-        out.begin_object()?;
-        out.key("key")?;
-        out.string(entry.key.as_str())?;
-        out.key("path")?;
-        out.string(entry.path.as_str())?;
-        out.end_object()?;
+        out.begin_object();
+        out.named("key", entry.key.as_str());
+        out.named("path", entry.path.as_str());
+        out.end_object();
     }
-    out.end_array()
+    out.end_array();
 }
 
-fn print_taken(out: &mut Writer, all: &[Taken]) -> Result<(), AllocError> {
-    out.begin_array()?;
+fn print_taken(out: &mut Json, all: &[Taken]) {
+    out.begin_array();
     for taken in all {
-        out.begin_object()?;
-        out.key("written")?;
-        out.string(taken.written.as_str())?;
-        out.key("path")?;
-        out.string(taken.path.as_str())?;
-        out.end_object()?;
+        out.begin_object();
+        out.named("written", taken.written.as_str());
+        out.named("path", taken.path.as_str());
+        out.end_object();
     }
-    out.end_array()
+    out.end_array();
 }
 
-fn print_packages(out: &mut Writer, packages: &[Package]) -> Result<(), AllocError> {
-    out.begin_array()?;
+fn print_packages(out: &mut Json, packages: &[Package]) {
+    out.begin_array();
     for package in packages {
-        out.begin_object()?;
-        out.key("folder")?;
-        out.string(package.folder.as_str())?;
-        out.key("entries")?;
-        print_entries(out, package.exports.as_slice())?;
-        out.key("taken")?;
-        print_taken(out, package.taken.as_slice())?;
-        out.end_object()?;
+        out.begin_object();
+        out.named("folder", package.folder.as_str());
+        out.key("entries");
+        print_entries(out, package.exports.as_slice());
+        out.key("taken");
+        print_taken(out, package.taken.as_slice());
+        out.end_object();
     }
-    out.end_array()
+    out.end_array();
 }
 
-fn print_lead(out: &mut Writer, lead: &Lead) -> Result<(), AllocError> {
-    out.begin_object()?;
-    out.key("text")?;
-    out.string(lead.text.as_str())?;
-    out.key("start")?;
-    out.u64(lead.start as u64)?;
-    out.key("is_effect")?;
-    out.boolean(lead.is_effect)?;
-    out.key("target")?;
+fn print_lead(out: &mut Json, lead: &Lead) {
+    out.begin_object();
+    out.named("text", lead.text.as_str());
+    out.key("start");
+    out.number(lead.start as u64);
+    out.key("is_effect");
+    out.boolean(lead.is_effect);
+    out.key("target");
     match &lead.target {
-        Some(target) => out.string(target.as_str())?,
-        None => out.null()?,
+        Some(target) => out.text(target.as_str()),
+        None => out.null(),
     }
-    out.end_object()
+    out.end_object();
 }
 
-fn print_files(out: &mut Writer, files: &[ReadFile]) -> Result<(), AllocError> {
-    out.begin_array()?;
+fn print_files(out: &mut Json, files: &[ReadFile]) {
+    out.begin_array();
     for file in files {
-        out.begin_object()?;
-        out.key("path")?;
-        out.string(file.path.as_str())?;
-        out.key("leads")?;
-        out.begin_array()?;
+        out.begin_object();
+        out.named("path", file.path.as_str());
+        out.key("leads");
+        out.begin_array();
         for lead in file.leads.iter() {
-            print_lead(out, lead)?;
+            print_lead(out, lead);
         }
-        out.end_array()?;
-        out.key("names_return")?;
-        out.boolean(file.names_return)?;
-        out.end_object()?;
+        out.end_array();
+        out.key("names_return");
+        out.boolean(file.names_return);
+        out.end_object();
     }
-    out.end_array()
+    out.end_array();
 }
 
 /// What is told of the packages of a folder that can be read.
@@ -150,18 +141,16 @@ pub fn line_of(
 ) -> Result<String, AllocError> {
     let mut out = Writer::new(Vec::new(alloc));
     out.begin_object()?;
-    let mut out = print_told(alloc, out, told)?;
-    out.key("errors")?;
-    print_messages(&mut out, messages.errors.as_slice())?;
-    out.key("faults")?;
-    print_messages(&mut out, messages.faults.as_slice())?;
-    out.key("warnings")?;
-    print_messages(&mut out, messages.warnings.as_slice())?;
-    out.key("packages")?;
-    print_packages(&mut out, packages)?;
-    out.key("files")?;
-    print_files(&mut out, files)?;
-    out.end_object()?;
+    let mut out = Json::new(print_told(alloc, out, told)?);
+    print_messages(&mut out, "errors", messages.errors.as_slice());
+    print_messages(&mut out, "faults", messages.faults.as_slice());
+    print_messages(&mut out, "warnings", messages.warnings.as_slice());
+    out.key("packages");
+    print_packages(&mut out, packages);
+    out.key("files");
+    print_files(&mut out, files);
+    out.end_object();
+    let out = out.finish()?;
     Ok(match String::from_utf8(out.into_inner()) {
         Ok(line) => line,
         Err(_) => String::new(alloc),

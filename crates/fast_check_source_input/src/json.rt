@@ -69,8 +69,13 @@ impl Json {
         }
     }
 
-    pub fn number(&mut self, number: u32) {
-        let done = self.out.u64(u64::from(number));
+    pub fn number(&mut self, number: u64) {
+        let done = self.out.u64(number);
+        self.note(done);
+    }
+
+    pub fn boolean(&mut self, flag: bool) {
+        let done = self.out.boolean(flag);
         self.note(done);
     }
 
@@ -89,8 +94,7 @@ impl Json {
     pub fn flag(&mut self, name: &str, flag: bool) {
         if flag {
             self.key(name);
-            let done = self.out.boolean(true);
-            self.note(done);
+            self.boolean(true);
         }
     }
 

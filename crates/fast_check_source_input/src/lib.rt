@@ -8,3 +8,4 @@ mod modules;
 mod symbols;
 
 pub use crate::input::{FALLBACK, Input, Parsed, print_input};
+pub use crate::json::Json;

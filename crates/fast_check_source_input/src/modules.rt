@@ -16,7 +16,7 @@ fn print_source(out: &mut Json, source: &ParsedSource) {
     out.key("comments");
     out.comments(&source.comments);
     out.key("unresolved_context");
-    out.number(source.unresolved_context.0);
+    out.number(source.unresolved_context.0 as u64);
     out.end_object();
 }
 
@@ -33,7 +33,7 @@ fn print_swc_ids(out: &mut Json, ids: &[(Id, SymbolId)]) {
     for (id, symbol) in ids {
         out.begin_array();
         print_id(out, id);
-        out.number(symbol.0);
+        out.number(symbol.0 as u64);
         out.end_array();
     }
     out.end_array();
@@ -63,7 +63,7 @@ fn print_resolved(out: &mut Json, exports: &[(String, Url)]) {
 
 fn print_tables(out: &mut Json, tables: &ModuleTables) {
     out.key("module_symbol");
-    out.number(tables.module_symbol.0);
+    out.number(tables.module_symbol.0 as u64);
     out.key("symbols");
     print_symbols(out, tables.symbols.as_slice());
     out.key("swc_ids");

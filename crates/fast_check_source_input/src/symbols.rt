@@ -10,7 +10,7 @@ use fast_check_tree_syntax::Id;
 pub fn print_id(out: &mut Json, id: &Id) {
     out.begin_array();
     out.text(id.0.as_str());
-    out.number(id.1.0);
+    out.number(id.1.0 as u64);
     out.end_array();
 }
 
@@ -137,7 +137,7 @@ fn print_exports(out: &mut Json, exports: &SymbolExports) {
         if let Some((name, id)) = exports.at(place) {
             out.begin_array();
             out.text(name);
-            out.number(id.0);
+            out.number(id.0 as u64);
             out.end_array();
         }
     }
@@ -155,10 +155,10 @@ fn print_name(out: &mut Json, name: &str, text: &Option<String>) {
 pub fn print_symbol(out: &mut Json, symbol: &Symbol) {
     out.begin_object();
     out.key("id");
-    out.number(symbol.id.0);
+    out.number(symbol.id.0 as u64);
     if let Some(parent) = &symbol.parent_id {
         out.key("parent_id");
-        out.number(parent.0);
+        out.number(parent.0 as u64);
     }
     out.flag("is_private_member", symbol.is_private_member);
     print_name(out, "maybe_name", &symbol.maybe_name);
@@ -168,7 +168,7 @@ pub fn print_symbol(out: &mut Json, symbol: &Symbol) {
     out.key("members");
     out.begin_array();
     for member in symbol.members.iter() {
-        out.number(member.0);
+        out.number(member.0 as u64);
     }
     out.end_array();
     out.key("decls");
