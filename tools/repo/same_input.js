@@ -47,7 +47,7 @@ function isHidden(node, name) {
 }
 
 /**
- * A tree with what another one has where no rule looks: values behind written types or handed to `super`, bodies of setters, statements that declare nothing and assign to no name of the tables, the place of a body,
+ * A tree with what another one has where no rule looks: values behind written types or handed to `super`, statements that declare nothing and assign to no name of the tables, the place of a body,
  * and that of a returned value that names no type.
  */
 function seen(mine, wanted, name = '', around = {}) {
@@ -56,10 +56,17 @@ function seen(mine, wanted, name = '', around = {}) {
   if (isNull(name === 'body' ? wanted.Expr : wanted) && isHidden(around, name)) return wanted;
   if (wanted.Empty && !mine.Decl && !mine.ModuleDecl) return wanted;
   if (name === 'args' && isNull(wanted.expr) && mine.expr) return { ...mine, expr: wanted.expr };
-  if (name === 'Method' && mine.kind === 'Setter' && mine.function.body && wanted.function.body) return { ...mine, function: { ...mine.function, body: wanted.function.body } };
   if (mine.Return && wanted.Return && mine.Return.arg?.This && wanted.Return.arg?.This) return wanted;
   const made = Object.fromEntries(Object.entries(mine).map(([key, it]) => [key, seen(it, wanted[key], key, mine)]));
   return mine.stmts && !wanted.span ? { ...made, span: undefined } : made;
+}
+
+/** A tree in which a value that asserts its type is its type: no rule looks at more of it. */
+function asserted(tree, name = '') {
+  if (!isObject(tree)) return tree;
+  if (Array.isArray(tree)) return tree.map((it) => asserted(it));
+  const isAssertion = name === 'TsAs' || name === 'TsTypeAssertion';
+  return Object.fromEntries(Object.entries(tree).map(([key, it]) => [key, isAssertion && key === 'expr' ? 'a value' : asserted(it, key)]));
 }
 
 /** Whether skeletons keep a comment: those of documentation, and those that speak to the compiler. */
@@ -135,7 +142,7 @@ function plainModules(pair, isExportedAgain) {
   const trees = parts.map(({ source }) => source.program);
   const made = parts.map(({ source: { program, comments = {}, ...source }, kind, others: { specifier, ...tables } }, at) => {
     const scopes = new Map([[1, 1], [2, 2]]);
-    const tree = plain(at ? program : seen(program, trees[1]), scopes);
+    const tree = plain(asserted(at ? program : seen(program, trees[1])), scopes);
     const kept = { leading: keptComments(comments.leading), trailing: keptComments(comments.trailing) };
     return { kind, specifier, source, tree, comments: kept, tables: new Tables(tables, scopes, isExportedAgain) };
   });

@@ -3,6 +3,7 @@
 #![tactic(auto)]
 
 mod edits;
+mod local;
 mod members;
 mod restored;
 mod returns;

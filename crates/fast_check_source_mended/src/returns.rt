@@ -1,17 +1,13 @@
 //! Bodies of functions, cut to what says how they return.
 use crate::edits::{Edits, range_of};
-use crate::statements::{holds_statements, push_names, push_parts, variables_of};
+use crate::local::is_local;
+use crate::statements::{holds_statements, push_parts};
 use fast_check_tree_forms_expressions::{
     CallExpr, ParenExpr, ThisExpr, TsAsExpr, TsSatisfiesExpr, TsTypeAssertion,
 };
-use fast_check_tree_forms_programs::Ident;
-use fast_check_tree_forms_statements::{
-    BlockStmt, ClassDecl, EmptyStmt, ExprStmt, FnDecl, ReturnStmt, TsEnumDecl, TsInterfaceDecl,
-    TsModuleDecl, TsTypeAliasDecl, UsingDecl, VarDecl, VarDeclarator,
-};
+use fast_check_tree_forms_statements::{BlockStmt, EmptyStmt, ExprStmt, ReturnStmt};
 use fast_check_tree_syntax::{Items, Kind, Part, SourcePos, SourceRange, Tree};
 use std::alloc::{AllocError, Global};
-use std::collections::BTreeSet;
 
 /// The body of a function.
 #[derive(Clone, Copy)]
@@ -91,81 +87,6 @@ pub fn naming<'a>(alloc: Global, block: Part<'a>) -> Result<Option<Part<'a>>, Al
     }
     let arg = ReturnStmt::of(last).arg;
     Ok(if names_type(arg) { Some(arg) } else { None })
-}
-
-// The name of what a statement declares in its own block, if that is no list of variables.
-fn name_of(statement: Part<'_>) -> Option<Part<'_>> {
-    match statement.kind() {
-        Kind::FnDecl => Some(FnDecl::of(statement).ident),
-        Kind::ClassDecl => Some(ClassDecl::of(statement).ident),
-        Kind::TsInterfaceDecl => Some(TsInterfaceDecl::of(statement).id),
-        Kind::TsTypeAliasDecl => Some(TsTypeAliasDecl::of(statement).id),
-        Kind::TsEnumDecl => Some(TsEnumDecl::of(statement).id),
-        Kind::TsModuleDecl => Some(TsModuleDecl::of(statement).id),
-        _ => None,
-    }
-}
-
-// The names of what a statement declares in its own block.
-fn push_declared<'a>(
-    alloc: Global,
-    statement: Part<'a>,
-    out: &mut Vec<Part<'a>>,
-) -> Result<(), AllocError> {
-    if let Some(name) = name_of(statement) {
-        out.push(name)?;
-    }
-    let decls = match statement.kind() {
-        Kind::VarDecl => VarDecl::of(statement).decls,
-        Kind::UsingDecl => UsingDecl::of(statement).decls,
-        _ => return Ok(()),
-    };
-    for each in decls.parts() {
-        push_names(alloc, VarDeclarator::of(each.read()).name, out)?;
-    }
-    Ok(())
-}
-
-// The names that a body declares.
-fn declared<'a>(alloc: Global, block: Part<'a>) -> Result<BTreeSet<&'a str>, AllocError> {
-    let mut names = Vec::new(alloc);
-    for statement in BlockStmt::of(block).stmts.parts() {
-        push_declared(alloc, statement.read(), &mut names)?;
-        for variable in variables_of(alloc, statement.read())? {
-            push_names(
-                alloc,
-                VarDeclarator::of(variable.declarator).name,
-                &mut names,
-            )?;
-        }
-    }
-    let mut made = BTreeSet::new(alloc);
-    for name in names {
-        if name.kind() == Kind::Ident {
-            let _ = made.insert(Ident::of(name).sym)?;
-        }
-    }
-    Ok(made)
-}
-
-// Whether a type has a name that a body declares, which no skeleton could say.
-fn is_local(alloc: Global, block: Part<'_>, type_ann: Part<'_>) -> Result<bool, AllocError> {
-    let names = declared(alloc, block)?;
-    let mut waiting = Vec::new(alloc);
-    waiting.push(type_ann)?;
-    for _turn in 0..u64::MAX {
-        let Some(next) = waiting.pop() else {
-            break;
-        };
-        if next.kind() == Kind::Ident {
-            let name = Ident::of(next).sym;
-            if names.contains(&name) {
-                return Ok(true);
-            }
-        }
-        push_parts(next, &mut waiting)?;
-    }
-    Ok(false)
 }
 
 // The returned value that stays: the one by which the body names its type.

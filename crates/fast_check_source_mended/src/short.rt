@@ -3,9 +3,9 @@ use crate::edits::{Edits, range_of, with_edits};
 use crate::members::put_accessors;
 use crate::returns::{Body, put_body, put_constructor};
 use crate::statements::push_parts;
-use fast_check_tree_forms_classes::{Class, Constructor, Function, StaticBlock};
+use fast_check_tree_forms_classes::{Class, ClassMethod, Constructor, Function, StaticBlock};
 use fast_check_tree_forms_expressions::{ArrowExpr, GetterProp, ObjectLit, SetterProp};
-use fast_check_tree_syntax::{Kind, Part, Tree};
+use fast_check_tree_syntax::{Kind, Part, Tree, Word};
 use std::alloc::{AllocError, Global};
 use std::collections::BTreeSet;
 
@@ -15,6 +15,8 @@ struct Bodies<'a> {
     text: &'a str,
     // Where the bodies begin of getters that have the types of their setters.
     of_setters: BTreeSet<u32>,
+    // Where those of setters begin.
+    setters: BTreeSet<u32>,
     edits: Edits,
 }
 
@@ -25,14 +27,25 @@ impl<'a> Bodies<'a> {
         has_type: bool,
         is_generator: bool,
     ) -> Result<(), AllocError> {
-        let is_of_setter = self.of_setters.contains(&range_of(block).start.0);
+        let start = range_of(block).start.0;
+        let is_of_setter = self.of_setters.contains(&start);
         let body = Body {
             block,
-            has_type,
+            has_type: has_type || self.setters.contains(&start),
             is_generator,
             is_of_setter,
         };
         put_body(&mut self.edits, body)
+    }
+
+    // A setter returns nothing, whatever its body says.
+    fn method(&mut self, part: Part<'_>) -> Result<(), AllocError> {
+        let ClassMethod { function, kind, .. } = ClassMethod::of(part);
+        if kind.has_word(Word::Setter) {
+            let body = Function::of(function).body;
+            let _ = self.setters.insert(range_of(body).start.0)?;
+        }
+        Ok(())
     }
 
     fn accessors(&mut self, members: Part<'_>) -> Result<(), AllocError> {
@@ -62,6 +75,7 @@ impl<'a> Bodies<'a> {
                 } = ArrowExpr::of(part);
                 self.body(body, !return_type.is_absent(), false)
             }
+            Kind::ClassMethod => self.method(part),
             Kind::SetterProp => self.body(SetterProp::of(part).body, true, false),
             Kind::StaticBlock => self.body(StaticBlock::of(part).body, true, false),
             Kind::Constructor => put_constructor(&mut self.edits, Constructor::of(part).body),
@@ -77,6 +91,7 @@ pub fn short_tree(alloc: Global, text: &str, tree: &Tree) -> Result<Tree, AllocE
     let mut bodies = Bodies {
         text,
         of_setters: BTreeSet::new(alloc),
+        setters: BTreeSet::new(alloc),
         edits: Edits::new(alloc),
     };
     let mut waiting = Vec::new(alloc);

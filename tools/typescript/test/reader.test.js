@@ -210,6 +210,10 @@ test('build answers to the input what the program answers', { skip }, () => with
   }
 }));
 
+for (const name of ['missing-import', 'unresolved-import', 'deep']) {
+  test(`the input of ${name} is the compiler's, since it has words for it`, { skip }, async () => same(...await bothSay(['input'], path.join(PACKAGES, name))));
+}
+
 // ---- without a compiler
 
 /** Runs the launcher where no compiler can be found. */

@@ -12,3 +12,4 @@ export function queried() { const local = 1; return x as typeof local; }
 export function outer() { const unrelated = 1; return x as Local; }
 export function parameter<T>(of: T) { return x as T | typeof of; }
 export function inferred() { type U = 1; return x as (Local extends infer U ? U : never); }
+export function keyed() { const key = "a"; return x as { [key]: number }; }

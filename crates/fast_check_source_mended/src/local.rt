@@ -1,0 +1,182 @@
+//! Types that have a name of a body, which no skeleton could say.
+use crate::statements::{push_names, variables_of};
+use fast_check_tree_forms_programs::Ident;
+use fast_check_tree_forms_statements::{
+    BlockStmt, ClassDecl, FnDecl, TsEnumDecl, TsInterfaceDecl, TsModuleDecl, TsTypeAliasDecl,
+    UsingDecl, VarDecl, VarDeclarator,
+};
+use fast_check_tree_forms_types::{
+    TsGetterSignature, TsMethodSignature, TsPropertySignature, TsQualifiedName, TsSetterSignature,
+    TsTypeRef,
+};
+use fast_check_tree_syntax::{Kind, Part};
+use std::alloc::{AllocError, Global};
+use std::collections::BTreeSet;
+
+// The names that a body declares.
+#[derive(Drop)]
+struct Declared<'a> {
+    all: BTreeSet<&'a str>,
+    types: BTreeSet<&'a str>,
+    // Those in which types may stand.
+    spaces: BTreeSet<&'a str>,
+}
+
+// The name of what a statement declares in its own block, if that is no list of variables.
+fn name_of(statement: Part<'_>) -> Option<Part<'_>> {
+    match statement.kind() {
+        Kind::FnDecl => Some(FnDecl::of(statement).ident),
+        Kind::ClassDecl => Some(ClassDecl::of(statement).ident),
+        Kind::TsInterfaceDecl => Some(TsInterfaceDecl::of(statement).id),
+        Kind::TsTypeAliasDecl => Some(TsTypeAliasDecl::of(statement).id),
+        Kind::TsEnumDecl => Some(TsEnumDecl::of(statement).id),
+        Kind::TsModuleDecl => Some(TsModuleDecl::of(statement).id),
+        _ => None,
+    }
+}
+
+// The names of the variables that a statement declares in its own block.
+fn push_variables<'a>(
+    alloc: Global,
+    statement: Part<'a>,
+    out: &mut Vec<Part<'a>>,
+) -> Result<(), AllocError> {
+    let decls = match statement.kind() {
+        Kind::VarDecl => VarDecl::of(statement).decls,
+        Kind::UsingDecl => UsingDecl::of(statement).decls,
+        _ => return Ok(()),
+    };
+    for each in decls.parts() {
+        push_names(alloc, VarDeclarator::of(each.read()).name, out)?;
+    }
+    Ok(())
+}
+
+// The first of the names of which one is made.
+fn first_name(name: Part<'_>) -> &str {
+    let mut at = name;
+    for _turn in 0..u64::MAX {
+        if at.kind() != Kind::TsQualifiedName {
+            break;
+        }
+        at = TsQualifiedName::of(at).left;
+    }
+    Ident::of(at).sym
+}
+
+impl<'a> Declared<'a> {
+    fn new(alloc: Global) -> Declared<'a> {
+        Declared {
+            all: BTreeSet::new(alloc),
+            types: BTreeSet::new(alloc),
+            spaces: BTreeSet::new(alloc),
+        }
+    }
+
+    // Notes a name that a kind of statement declares.
+    fn declare(&mut self, kind: Kind, name: Part<'a>) -> Result<(), AllocError> {
+        if name.kind() != Kind::Ident {
+            return Ok(());
+        }
+        let name = Ident::of(name).sym;
+        let _ = self.all.insert(name)?;
+        if matches!(
+            kind,
+            Kind::ClassDecl | Kind::TsInterfaceDecl | Kind::TsTypeAliasDecl | Kind::TsEnumDecl
+        ) {
+            let _ = self.types.insert(name)?;
+        }
+        if matches!(kind, Kind::TsEnumDecl | Kind::TsModuleDecl) {
+            let _ = self.spaces.insert(name)?;
+        }
+        Ok(())
+    }
+
+    // Whether a part of a type refers to one of them.
+    fn has(&self, part: Part<'_>) -> bool {
+        match part.kind() {
+            Kind::Ident => self.all.contains(&Ident::of(part).sym),
+            Kind::TsTypeRef => {
+                let name = TsTypeRef::of(part).type_name;
+                let names = if name.kind() == Kind::Ident {
+                    &self.types
+                } else {
+                    &self.spaces
+                };
+                names.contains(&first_name(name))
+            }
+            _ => false,
+        }
+    }
+}
+
+// The names that a body declares.
+fn declared<'a>(alloc: Global, block: Part<'a>) -> Result<Declared<'a>, AllocError> {
+    let mut made = Declared::new(alloc);
+    let mut names = Vec::new(alloc);
+    for statement in BlockStmt::of(block).stmts.parts() {
+        let statement = statement.read();
+        if let Some(name) = name_of(statement) {
+            made.declare(statement.kind(), name)?;
+        }
+        push_variables(alloc, statement, &mut names)?;
+        for variable in variables_of(alloc, statement)? {
+            push_names(
+                alloc,
+                VarDeclarator::of(variable.declarator).name,
+                &mut names,
+            )?;
+        }
+    }
+    for name in names {
+        made.declare(Kind::VarDecl, name)?;
+    }
+    Ok(made)
+}
+
+// Whether a name that stands in a part of a type itself refers to no value.
+fn is_no_value(part: Part<'_>) -> bool {
+    match part.kind() {
+        Kind::TsPropertySignature => !TsPropertySignature::of(part).computed,
+        Kind::TsMethodSignature => !TsMethodSignature::of(part).computed,
+        Kind::TsGetterSignature => !TsGetterSignature::of(part).computed,
+        Kind::TsSetterSignature => !TsSetterSignature::of(part).computed,
+        kind => matches!(
+            kind,
+            Kind::TsTypeRef
+                | Kind::TsImportType
+                | Kind::TsTypePredicate
+                | Kind::TsTypeParam
+                | Kind::BindingIdent
+        ),
+    }
+}
+
+// Pushes the parts of a type in which values and types may be named.
+fn push_naming<'a>(part: Part<'a>, waiting: &mut Vec<Part<'a>>) -> Result<(), AllocError> {
+    let is_no_value = is_no_value(part);
+    for inner in part.parts() {
+        let inner = inner.read();
+        if !is_no_value || !matches!(inner.kind(), Kind::Ident | Kind::TsQualifiedName) {
+            waiting.push(inner)?;
+        }
+    }
+    Ok(())
+}
+
+/// Whether a type refers to what a body declares.
+pub fn is_local(alloc: Global, block: Part<'_>, type_ann: Part<'_>) -> Result<bool, AllocError> {
+    let names = declared(alloc, block)?;
+    let mut waiting = Vec::new(alloc);
+    waiting.push(type_ann)?;
+    for _turn in 0..u64::MAX {
+        let Some(next) = waiting.pop() else {
+            break;
+        };
+        if names.has(next) {
+            return Ok(true);
+        }
+        push_naming(next, &mut waiting)?;
+    }
+    Ok(false)
+}
