@@ -1,5 +1,5 @@
 //! The graph of modules.
-use crate::json::Json;
+use crate::pieces::Json;
 use fast_check_tables_diagnostics::parsed_source::MediaType;
 use fast_check_tables_graph::Module;
 use std::collections::BTreeMap;

@@ -1,7 +1,7 @@
 //! The request of `fast-check build`.
 use crate::graph::print_graph;
-use crate::json::Json;
 use crate::modules::print_module;
+use crate::pieces::Json;
 use fast_check_tables_diagnostics::parsed_source::ParsedSource;
 use fast_check_tables_graph::Module;
 use fast_check_tables_packages::{PackageNv, WorkspaceMember};

@@ -3,9 +3,9 @@
 
 mod graph;
 mod input;
-mod json;
 mod modules;
+mod pieces;
 mod symbols;
 
 pub use crate::input::{FALLBACK, Input, Parsed, print_input};
-pub use crate::json::Json;
+pub use crate::pieces::Json;

@@ -1,6 +1,6 @@
 //! Modules with their sources and tables.
 use crate::graph::media_type_text;
-use crate::json::Json;
+use crate::pieces::Json;
 use crate::symbols::{print_id, print_symbol};
 use fast_check_tables_diagnostics::parsed_source::ParsedSource;
 use fast_check_tables_symbols::{ModuleTables, ReExportAllNode, Symbol, SymbolId};

@@ -1,5 +1,5 @@
 //! Symbols, with their declarations and what these refer to.
-use crate::json::Json;
+use crate::pieces::Json;
 use fast_check_tables_symbols::{
     FileDepName, ReferenceNamespace, Symbol, SymbolDecl, SymbolDeclKind, SymbolDep, SymbolExports,
     SymbolNode, SymbolNodeDep,

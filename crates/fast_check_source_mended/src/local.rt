@@ -111,7 +111,7 @@ impl<'a> Declared<'a> {
 }
 
 // The names that a body declares.
-fn declared<'a>(alloc: Global, block: Part<'a>) -> Result<Declared<'a>, AllocError> {
+fn names_in<'a>(alloc: Global, block: Part<'a>) -> Result<Declared<'a>, AllocError> {
     let mut made = Declared::new(alloc);
     let mut names = Vec::new(alloc);
     for statement in BlockStmt::of(block).stmts.parts() {
@@ -166,7 +166,7 @@ fn push_naming<'a>(part: Part<'a>, waiting: &mut Vec<Part<'a>>) -> Result<(), Al
 
 /// Whether a type refers to what a body declares.
 pub fn is_local(alloc: Global, block: Part<'_>, type_ann: Part<'_>) -> Result<bool, AllocError> {
-    let names = declared(alloc, block)?;
+    let names = names_in(alloc, block)?;
     let mut waiting = Vec::new(alloc);
     waiting.push(type_ann)?;
     for _turn in 0..u64::MAX {
