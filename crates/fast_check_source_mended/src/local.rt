@@ -93,7 +93,7 @@ impl<'a> Declared<'a> {
     }
 
     // Whether a part of a type refers to one of them.
-    fn has(&self, part: Part<'_>) -> bool {
+    fn has(&self, part: Part<'a>) -> bool {
         match part.kind() {
             Kind::Ident => self.all.contains(&Ident::of(part).sym),
             Kind::TsTypeRef => {
@@ -165,7 +165,11 @@ fn push_naming<'a>(part: Part<'a>, waiting: &mut Vec<Part<'a>>) -> Result<(), Al
 }
 
 /// Whether a type refers to what a body declares.
-pub fn is_local(alloc: Global, block: Part<'_>, type_ann: Part<'_>) -> Result<bool, AllocError> {
+pub fn is_local<'a>(
+    alloc: Global,
+    block: Part<'a>,
+    type_ann: Part<'a>,
+) -> Result<bool, AllocError> {
     let names = names_in(alloc, block)?;
     let mut waiting = Vec::new(alloc);
     waiting.push(type_ann)?;
