@@ -281,6 +281,17 @@ test('thousands of lacking modules take no longer than their text', { skip }, as
   holds(Date.now() - begun < 5000, `${Date.now() - begun} ms`);
 });
 
+test('thousands of lacking entry points take no longer than their text, and each is told', { skip }, () => withFolder((folder) => {
+  const names = Array.from({ length: 4500 }, (_, at) => `x${at}.ts`);
+  write(folder, { 'deno.json': JSON.stringify({ name: '@test/lacking', version: '1.0.0', exports: Object.fromEntries(names.map((it) => [`./${it}`, `./${it}`])) }) });
+  const begun = Date.now();
+  const { stdout } = childProcess.spawnSync(PROGRAM || '', [folder], { encoding: 'utf8', maxBuffer: 1 << 26 });
+  holds(Date.now() - begun < 5000, `${Date.now() - begun} ms`);
+  const { errors } = JSON.parse(stdout);
+  same(new Set(errors.map((/** @type {{ message: string }} */ { message }) => message)).size, names.length, 'the errors');
+  same([errors[0].path, errors[0].line].join(), 'deno.json,1', 'the place of the first');
+}));
+
 // ---- folders that are read together
 
 test('serve answers lines that come together as it answers each', { skip }, () => withFolder((folder) => {
