@@ -9,10 +9,11 @@ use fast_check_tree_syntax::{Items, Kind, Part, SourceRange, SyntaxContext, Tree
 use std::alloc::{AllocError, Global};
 use std::collections::BTreeMap;
 
-/// Trees by the ranges of the nodes that they stand in place of, with the kinds of these.
+/// Trees by the ranges of the nodes that they stand in place of, with the kinds of these. Where memory runs out one is left out, and they say so.
 #[derive(Drop)]
 pub struct Edits {
     pub alloc: Global,
+    pub lacks: bool,
     found: BTreeMap<(u32, u32), (Kind, Tree)>,
 }
 
@@ -41,6 +42,7 @@ impl Edits {
     {
         Edits {
             alloc,
+            lacks: false,
             found: BTreeMap::new(alloc),
         }
     }
@@ -51,18 +53,21 @@ impl Edits {
         self.found.is_empty()
     }
 
-    /// Has a tree stand in place of a node.
-    pub fn put(&mut self, part: Part<'_>, tree: Tree) -> Result<(), AllocError> {
+    /// Has a tree stand in place of a node, if it was made.
+    pub fn put(&mut self, part: Part<'_>, made: Result<Tree, AllocError>) {
         let range = range_of(part);
         let key = (range.start.0, range.end.0);
-        let _ = self.found.insert(key, (part.kind(), tree))?;
-        Ok(())
+        match made {
+            Ok(tree) => if self.found.insert(key, (part.kind(), tree)).is_err() {
+                self.lacks = true;
+            },
+            Err(_) => self.lacks = true,
+        }
     }
 
     /// Has a value stand in place of another one, of which no skeleton is made.
-    pub fn hide(&mut self, value: Part<'_>) -> Result<(), AllocError> {
-        let tree = hidden(self.alloc, range_of(value))?;
-        self.put(value, tree)
+    pub fn hide(&mut self, value: Part<'_>) {
+        self.put(value, hidden(self.alloc, range_of(value)));
     }
 
     fn at(&self, kind: Kind, parts: &[Tree]) -> Option<&Tree> {
@@ -106,7 +111,9 @@ fn all_with_edits(alloc: Global, trees: &[Tree], edits: &Edits) -> Result<Items<
 pub fn edited(alloc: Global, tree: Tree, edits: &Edits) -> Result<Tree, AllocError>
     ensures { IfOk result (λ made. btree_map_len edits.now.found ≡ 0 → made ≡ tree) }
 {
-    if edits.is_empty() {
+    if edits.lacks {
+        Err(AllocError)
+    } else if edits.is_empty() {
         Ok(tree)
     } else {
         with_edits(alloc, &tree, edits)

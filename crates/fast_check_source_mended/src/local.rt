@@ -1,5 +1,6 @@
 //! Types that have a name of a body, which no skeleton could say.
 use crate::statements::{push_names, variables_of};
+use fast_check_source_heights::Waiting;
 use fast_check_tree_forms_programs::Ident;
 use fast_check_tree_forms_statements::{
     BlockStmt, ClassDecl, FnDecl, TsEnumDecl, TsInterfaceDecl, TsModuleDecl, TsTypeAliasDecl,
@@ -153,15 +154,14 @@ fn is_no_value(part: Part<'_>) -> bool {
 }
 
 // Pushes the parts of a type in which values and types may be named.
-fn push_naming<'a>(part: Part<'a>, waiting: &mut Vec<Part<'a>>) -> Result<(), AllocError> {
+fn push_naming<'a>(part: Part<'a>, waiting: &mut Waiting<Part<'a>>) {
     let is_no_value = is_no_value(part);
     for inner in part.parts() {
         let inner = inner.read();
         if !is_no_value || !matches!(inner.kind(), Kind::Ident | Kind::TsQualifiedName) {
-            waiting.push(inner)?;
+            waiting.push(inner);
         }
     }
-    Ok(())
 }
 
 /// Whether a type refers to what a body declares.
@@ -171,8 +171,8 @@ pub fn is_local<'a>(
     type_ann: Part<'a>,
 ) -> Result<bool, AllocError> {
     let names = names_in(alloc, block)?;
-    let mut waiting = Vec::new(alloc);
-    waiting.push(type_ann)?;
+    let mut waiting = Waiting::new(alloc);
+    waiting.push(type_ann);
     for _turn in 0..u64::MAX {
         let Some(next) = waiting.pop() else {
             break;
@@ -180,7 +180,11 @@ pub fn is_local<'a>(
         if names.has(next) {
             return Ok(true);
         }
-        push_naming(next, &mut waiting)?;
+        push_naming(next, &mut waiting);
     }
-    Ok(false)
+    if waiting.lacks {
+        Err(AllocError)
+    } else {
+        Ok(false)
+    }
 }

@@ -1,6 +1,7 @@
 //! Members of classes and objects that others of them bear on: getters beside their setters, and private static members beside others of their names.
 use crate::edits::{Edits, range_of};
 use crate::returns::{asserted, naming};
+use crate::statements::name_tree;
 use fast_check_source_references::functions::type_of_pattern;
 use fast_check_tree_forms_classes::{
     AutoAccessor, ClassMethod, ClassProp, Constructor, Function, Param, TsParamProp,
@@ -8,7 +9,7 @@ use fast_check_tree_forms_classes::{
 use fast_check_tree_forms_expressions::{AssignPat, GetterProp, SetterProp};
 use fast_check_tree_forms_programs::{BindingIdent, Ident, IdentName};
 use fast_check_tree_forms_types::{TsKeywordType, TsTypeAnn};
-use fast_check_tree_syntax::{Atom, Kind, Part, Word};
+use fast_check_tree_syntax::{Kind, Part, Tree, Word};
 use std::alloc::{AllocError, Global};
 use std::collections::BTreeSet;
 
@@ -246,29 +247,25 @@ fn other_names<'a>(alloc: Global, members: Part<'a>) -> Result<BTreeSet<&'a str>
     Ok(names)
 }
 
+// A name behind which the word stands.
+fn marked(alloc: Global, key: Part<'_>) -> Result<Tree, AllocError> {
+    let IdentName { span, sym } = IdentName::of(key);
+    let mut name = String::from_str(alloc, sym)?;
+    name.push_str(STATIC)?;
+    name_tree(alloc, span, name.as_str())
+}
+
 /// Has a word stand behind the names of private static members of a class beside other private ones of their names.
-pub fn put_static_names(edits: &mut Edits, members: Part<'_>) -> Result<(), AllocError> {
-    let alloc = edits.alloc;
-    let others = other_names(alloc, members)?;
-    if others.is_empty() {
-        return Ok(());
-    }
-    for member in members.parts() {
-        if let Some((key, is_static)) = private_name(member.read())
-            && is_static
-        {
-            let IdentName { span, sym } = IdentName::of(key);
-            if others.contains(&sym) {
-                let mut marked = String::from_str(alloc, sym)?;
-                marked.push_str(STATIC)?;
-                let made = IdentName {
-                    span,
-                    sym: Atom::from_str(alloc, marked.as_str())?,
-                };
-                let tree = made.into_tree(alloc)?;
-                edits.put(key, tree)?;
+pub fn put_static_names(edits: &mut Edits, members: Part<'_>) {
+    match other_names(edits.alloc, members) {
+        Ok(others) => for member in members.parts() {
+            if let Some((key, is_static)) = private_name(member.read())
+                && is_static
+                && others.contains(&IdentName::of(key).sym)
+            {
+                edits.put(key, marked(edits.alloc, key));
             }
-        }
+        },
+        Err(_) => edits.lacks = true,
     }
-    Ok(())
 }

@@ -2,6 +2,7 @@
 use crate::edits::{Edits, range_of};
 use crate::local::is_local;
 use crate::statements::{holds_statements, push_parts};
+use fast_check_source_heights::Waiting;
 use fast_check_tree_forms_expressions::{
     CallExpr, ParenExpr, ThisExpr, TsAsExpr, TsSatisfiesExpr, TsTypeAssertion,
 };
@@ -61,8 +62,8 @@ fn names_type(value: Part<'_>) -> bool {
 // The statements by which a body returns, in the order of the text.
 fn returns<'a>(alloc: Global, block: Part<'a>) -> Result<Vec<Part<'a>>, AllocError> {
     let mut found = Vec::new(alloc);
-    let mut waiting = Vec::new(alloc);
-    waiting.push(block)?;
+    let mut waiting = Waiting::new(alloc);
+    waiting.push(block);
     for _turn in 0..u64::MAX {
         let Some(next) = waiting.pop() else {
             break;
@@ -70,10 +71,14 @@ fn returns<'a>(alloc: Global, block: Part<'a>) -> Result<Vec<Part<'a>>, AllocErr
         if next.kind() == Kind::ReturnStmt {
             found.push(next)?;
         } else if holds_statements(next.kind()) {
-            push_parts(next, &mut waiting)?;
+            push_parts(next, &mut waiting);
         }
     }
-    Ok(found)
+    if waiting.lacks {
+        Err(AllocError)
+    } else {
+        Ok(found)
+    }
 }
 
 /// The only value that a body returns, by its last statement, where it names a type.
@@ -148,33 +153,35 @@ fn short_statements(alloc: Global, body: Body<'_>) -> Result<Items<Tree>, AllocE
     Ok(made)
 }
 
-fn put_block(
-    edits: &mut Edits,
+fn short_block(
+    alloc: Global,
     block: Part<'_>,
     span: SourceRange,
     stmts: Items<Tree>,
-) -> Result<(), AllocError> {
-    let made = BlockStmt {
+) -> Result<Tree, AllocError> {
+    BlockStmt {
         span,
         ctxt: BlockStmt::of(block).ctxt,
         stmts: Tree::list(stmts),
-    };
-    let tree = made.into_tree(edits.alloc)?;
-    edits.put(block, tree)
+    }
+    .into_tree(alloc)
 }
 
-/// Cuts a body: behind a written type nothing of it is seen, and else how it returns, and the value by which it names the type.
-pub fn put_body(edits: &mut Edits, body: Body<'_>) -> Result<(), AllocError> {
-    if body.block.kind() != Kind::BlockStmt {
-        return Ok(());
-    }
-    let stmts = short_statements(edits.alloc, body)?;
+fn short_body(alloc: Global, body: Body<'_>) -> Result<Tree, AllocError> {
+    let stmts = short_statements(alloc, body)?;
     // No text stands in its place.
     let span = SourceRange {
         start: SourcePos(0),
         end: SourcePos(0),
     };
-    put_block(edits, body.block, span, stmts)
+    short_block(alloc, body.block, span, stmts)
+}
+
+/// Cuts a body: behind a written type nothing of it is seen, and else how it returns, and the value by which it names the type.
+pub fn put_body(edits: &mut Edits, body: Body<'_>) {
+    if body.block.kind() == Kind::BlockStmt {
+        edits.put(body.block, short_body(edits.alloc, body));
+    }
 }
 
 fn is_super_call(statement: Part<'_>) -> bool {
@@ -185,16 +192,19 @@ fn is_super_call(statement: Part<'_>) -> bool {
     call.kind() == Kind::CallExpr && CallExpr::of(call).callee.kind() == Kind::Super
 }
 
-/// Cuts the body of a constructor to its calls of the superclass.
-pub fn put_constructor(edits: &mut Edits, block: Part<'_>) -> Result<(), AllocError> {
-    if block.kind() != Kind::BlockStmt {
-        return Ok(());
-    }
-    let mut stmts = Items::new(edits.alloc);
+fn short_constructor(alloc: Global, block: Part<'_>) -> Result<Tree, AllocError> {
+    let mut stmts = Items::new(alloc);
     for statement in BlockStmt::of(block).stmts.parts() {
         if is_super_call(statement.read()) {
-            stmts.push(statement.read().to_tree(edits.alloc)?)?;
+            stmts.push(statement.read().to_tree(alloc)?)?;
         }
     }
-    put_block(edits, block, range_of(block), stmts)
+    short_block(alloc, block, range_of(block), stmts)
+}
+
+/// Cuts the body of a constructor to its calls of the superclass.
+pub fn put_constructor(edits: &mut Edits, block: Part<'_>) {
+    if block.kind() == Kind::BlockStmt {
+        edits.put(block, short_constructor(edits.alloc, block));
+    }
 }

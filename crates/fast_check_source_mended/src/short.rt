@@ -3,6 +3,7 @@ use crate::edits::{Edits, range_of, with_edits};
 use crate::members::put_accessors;
 use crate::returns::{Body, put_body, put_constructor};
 use crate::statements::push_parts;
+use fast_check_source_heights::Waiting;
 use fast_check_tree_forms_classes::{Class, ClassMethod, Constructor, Function, StaticBlock};
 use fast_check_tree_forms_expressions::{ArrowExpr, GetterProp, ObjectLit, SetterProp};
 use fast_check_tree_syntax::{Kind, Part, Tree, Word};
@@ -21,12 +22,7 @@ struct Bodies<'a> {
 }
 
 impl<'a> Bodies<'a> {
-    fn body(
-        &mut self,
-        block: Part<'_>,
-        has_type: bool,
-        is_generator: bool,
-    ) -> Result<(), AllocError> {
+    fn body(&mut self, block: Part<'_>, has_type: bool, is_generator: bool) {
         let start = range_of(block).start.0;
         let is_of_setter = self.of_setters.contains(&start);
         let body = Body {
@@ -39,20 +35,24 @@ impl<'a> Bodies<'a> {
     }
 
     // A setter returns nothing, whatever its body says.
-    fn method(&mut self, part: Part<'_>) -> Result<(), AllocError> {
+    fn method(&mut self, part: Part<'_>) {
         let ClassMethod { function, kind, .. } = ClassMethod::of(part);
         if kind.has_word(Word::Setter) {
             let body = Function::of(function).body;
-            let _ = self.setters.insert(range_of(body).start.0)?;
+            if self.setters.insert(range_of(body).start.0).is_err() {
+                self.edits.lacks = true;
+            }
         }
-        Ok(())
     }
 
-    fn accessors(&mut self, members: Part<'_>) -> Result<(), AllocError> {
-        put_accessors(self.edits.alloc, self.text, members, &mut self.of_setters)
+    fn accessors(&mut self, members: Part<'_>) {
+        let done = put_accessors(self.edits.alloc, self.text, members, &mut self.of_setters);
+        if done.is_err() {
+            self.edits.lacks = true;
+        }
     }
 
-    fn part(&mut self, part: Part<'_>) -> Result<(), AllocError> {
+    fn part(&mut self, part: Part<'_>) {
         match part.kind() {
             Kind::Function => {
                 let Function {
@@ -81,7 +81,7 @@ impl<'a> Bodies<'a> {
             Kind::Constructor => put_constructor(&mut self.edits, Constructor::of(part).body),
             Kind::ObjectLit => self.accessors(ObjectLit::of(part).props),
             Kind::Class => self.accessors(Class::of(part).body),
-            _ => Ok(()),
+            _ => {}
         }
     }
 }
@@ -94,16 +94,19 @@ pub fn short_tree(alloc: Global, text: &str, tree: &Tree) -> Result<Tree, AllocE
         setters: BTreeSet::new(alloc),
         edits: Edits::new(alloc),
     };
-    let mut waiting = Vec::new(alloc);
-    waiting.push(tree.read())?;
+    let mut waiting = Waiting::new(alloc);
+    waiting.push(tree.read());
     for _turn in 0..u64::MAX {
         let Some(next) = waiting.pop() else {
             break;
         };
         if next.kind() != Kind::BlockStmt {
-            bodies.part(next)?;
-            push_parts(next, &mut waiting)?;
+            bodies.part(next);
+            push_parts(next, &mut waiting);
         }
+    }
+    if bodies.edits.lacks || waiting.lacks {
+        return Err(AllocError);
     }
     with_edits(alloc, tree, &bodies.edits)
 }

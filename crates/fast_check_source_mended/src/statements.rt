@@ -1,11 +1,12 @@
 //! Variables in the blocks of a module's statements, which the module declares, and properties that are assigned to functions under a text.
 use crate::edits::{Edits, hidden, range_of};
+use fast_check_source_heights::Waiting;
 use fast_check_tree_forms_expressions::{
     AssignExpr, AssignPat, AssignPatProp, ComputedPropName, MemberExpr, Tpl, TplElement,
 };
 use fast_check_tree_forms_programs::{BindingIdent, IdentName, Str};
 use fast_check_tree_forms_statements::{ExprStmt, ForInStmt, ForOfStmt, VarDecl, VarDeclarator};
-use fast_check_tree_syntax::{Atom, Items, Kind, Part, SyntaxContext, Tree, Word};
+use fast_check_tree_syntax::{Atom, Items, Kind, Part, SourceRange, SyntaxContext, Tree, Word};
 use std::alloc::{AllocError, Global};
 
 /// Whether a node is a statement, or a part of one, in which statements of the same function may stand.
@@ -30,11 +31,10 @@ pub fn holds_statements(kind: Kind) -> bool {
 }
 
 /// Pushes the parts of a node, the first one last.
-pub fn push_parts<'a>(part: Part<'a>, waiting: &mut Vec<Part<'a>>) -> Result<(), AllocError> {
+pub fn push_parts<'a>(part: Part<'a>, waiting: &mut Waiting<Part<'a>>) {
     for inner in part.parts().iter().rev() {
-        waiting.push(inner.read())?;
+        waiting.push(inner.read());
     }
-    Ok(())
 }
 
 /// Pushes the patterns of the names that a pattern binds.
@@ -43,22 +43,26 @@ pub fn push_names<'a>(
     pattern: Part<'a>,
     out: &mut Vec<Part<'a>>,
 ) -> Result<(), AllocError> {
-    let mut waiting = Vec::new(alloc);
-    waiting.push(pattern)?;
+    let mut waiting = Waiting::new(alloc);
+    waiting.push(pattern);
     for _turn in 0..u64::MAX {
         let Some(next) = waiting.pop() else {
             break;
         };
         match next.kind() {
             Kind::BindingIdent => out.push(BindingIdent::of(next).id)?,
-            Kind::AssignPat => waiting.push(AssignPat::of(next).left)?,
-            Kind::AssignPatProp => waiting.push(AssignPatProp::of(next).key)?,
+            Kind::AssignPat => waiting.push(AssignPat::of(next).left),
+            Kind::AssignPatProp => waiting.push(AssignPatProp::of(next).key),
             Kind::ArrayPat | Kind::ObjectPat | Kind::RestPat | Kind::KeyValuePatProp | Kind::List =>
-                push_parts(next, &mut waiting)?,
+                push_parts(next, &mut waiting),
             _ => {}
         }
     }
-    Ok(())
+    if waiting.lacks {
+        Err(AllocError)
+    } else {
+        Ok(())
+    }
 }
 
 /// A variable of a list behind `var`.
@@ -95,14 +99,23 @@ fn head_of(statement: Part<'_>) -> Option<Part<'_>> {
     }
 }
 
+// Pushes the parts of a loop, but for a list of variables.
+fn push_loop<'a>(statement: Part<'a>, waiting: &mut Waiting<Part<'a>>) {
+    for inner in statement.parts().iter().rev() {
+        if !is_var(inner.read()) {
+            waiting.push(inner.read());
+        }
+    }
+}
+
 /// The variables behind `var` in a statement, however deep in blocks, but not in functions, classes or namespaces.
 pub fn variables_of<'a>(
     alloc: Global,
     statement: Part<'a>,
 ) -> Result<Vec<Variable<'a>>, AllocError> {
     let mut found = Vec::new(alloc);
-    let mut waiting = Vec::new(alloc);
-    waiting.push(statement)?;
+    let mut waiting = Waiting::new(alloc);
+    waiting.push(statement);
     for _turn in 0..u64::MAX {
         let Some(next) = waiting.pop() else {
             break;
@@ -113,16 +126,16 @@ pub fn variables_of<'a>(
             if is_var(head) {
                 push_variables(head, Some(head), &mut found)?;
             }
-            for inner in next.parts().iter().rev() {
-                if !is_var(inner.read()) {
-                    waiting.push(inner.read())?;
-                }
-            }
+            push_loop(next, &mut waiting);
         } else if holds_statements(next.kind()) {
-            push_parts(next, &mut waiting)?;
+            push_parts(next, &mut waiting);
         }
     }
-    Ok(found)
+    if waiting.lacks {
+        Err(AllocError)
+    } else {
+        Ok(found)
+    }
 }
 
 // A variable as its module declares it. What a loop gives has no value there.
@@ -147,27 +160,36 @@ fn declared(alloc: Global, variable: Variable<'_>) -> Result<Tree, AllocError> {
     .into_tree(alloc)
 }
 
-fn put_variables(edits: &mut Edits, statement: Part<'_>) -> Result<(), AllocError> {
-    let alloc = edits.alloc;
+// The list of variables that stands in place of a statement.
+fn list_of(
+    alloc: Global,
+    statement: Part<'_>,
+    variables: &[Variable<'_>],
+) -> Result<Tree, AllocError> {
     let mut decls = Items::new(alloc);
-    let mut has_some = false;
-    for variable in variables_of(alloc, statement)? {
-        decls.push(declared(alloc, variable)?)?;
-        has_some = true;
+    for variable in variables {
+        decls.push(declared(alloc, *variable)?)?;
     }
-    if !has_some {
-        return Ok(());
-    }
-    let span = range_of(statement);
-    let tree = VarDecl {
-        span,
+    VarDecl {
+        span: range_of(statement),
         ctxt: SyntaxContext(0),
         kind: Tree::Word(Word::Var),
         declare: false,
         decls: Tree::list(decls),
     }
-    .into_tree(alloc)?;
-    edits.put(statement, tree)
+    .into_tree(alloc)
+}
+
+fn put_variables(edits: &mut Edits, statement: Part<'_>) {
+    match variables_of(edits.alloc, statement) {
+        Ok(variables) => if !variables.is_empty() {
+            edits.put(
+                statement,
+                list_of(edits.alloc, statement, variables.as_slice()),
+            );
+        },
+        Err(_) => edits.lacks = true,
+    }
 }
 
 // The text that stands in the brackets of a member, if it may stand behind a dot.
@@ -202,37 +224,43 @@ fn is_name(text: &str) -> bool {
     !text.is_empty()
 }
 
-// `object["name"] = value;` is `object.name = value;`.
-fn put_property(edits: &mut Edits, statement: Part<'_>) -> Result<(), AllocError> {
+// The member to which a statement assigns, if it does.
+fn assigned(statement: Part<'_>) -> Option<MemberExpr<Part<'_>>> {
     let expr = ExprStmt::of(statement).expr;
     if expr.kind() != Kind::AssignExpr {
-        return Ok(());
+        return None;
     }
     let AssignExpr { op, left, .. } = AssignExpr::of(expr);
-    if op != "=" || left.kind() != Kind::MemberExpr {
-        return Ok(());
+    if op == "=" && left.kind() == Kind::MemberExpr {
+        Some(MemberExpr::of(left))
+    } else {
+        None
     }
-    let MemberExpr { obj, prop, .. } = MemberExpr::of(left);
-    if obj.kind() != Kind::Ident || prop.kind() != Kind::ComputedPropName {
-        return Ok(());
+}
+
+/// A name as another one says it.
+pub fn name_tree(alloc: Global, span: SourceRange, name: &str) -> Result<Tree, AllocError> {
+    let sym = Atom::from_str(alloc, name)?;
+    IdentName { span, sym }.into_tree(alloc)
+}
+
+// `object["name"] = value;` is `object.name = value;`.
+fn put_property(edits: &mut Edits, statement: Part<'_>) {
+    if let Some(MemberExpr { obj, prop, .. }) = assigned(statement)
+        && obj.kind() == Kind::Ident
+        && prop.kind() == Kind::ComputedPropName
+    {
+        let ComputedPropName { expr: key, .. } = ComputedPropName::of(prop);
+        if let Some(name) = name_in(key) {
+            edits.put(prop, name_tree(edits.alloc, range_of(key), name));
+        }
     }
-    let ComputedPropName { expr: key, .. } = ComputedPropName::of(prop);
-    if let Some(name) = name_in(key) {
-        let alloc = edits.alloc;
-        let made = IdentName {
-            span: range_of(key),
-            sym: Atom::from_str(alloc, name)?,
-        };
-        let tree = made.into_tree(alloc)?;
-        edits.put(prop, tree)?;
-    }
-    Ok(())
 }
 
 /// The edits of the statements of a module and of its namespaces.
-pub fn put_statements(edits: &mut Edits, program: Part<'_>) -> Result<(), AllocError> {
-    let mut waiting = Vec::new(edits.alloc);
-    waiting.push(program)?;
+pub fn put_statements(edits: &mut Edits, program: Part<'_>) {
+    let mut waiting = Waiting::new(edits.alloc);
+    waiting.push(program);
     for _turn in 0..u64::MAX {
         let Some(next) = waiting.pop() else {
             break;
@@ -244,14 +272,14 @@ pub fn put_statements(edits: &mut Edits, program: Part<'_>) -> Result<(), AllocE
             | Kind::TsModuleDecl
             | Kind::TsNamespaceDecl
             | Kind::TsModuleBlock
-            | Kind::List => push_parts(next, &mut waiting)?,
-            Kind::ExprStmt => put_property(edits, next)?,
+            | Kind::List => push_parts(next, &mut waiting),
+            Kind::ExprStmt => put_property(edits, next),
             kind => {
                 if holds_statements(kind) {
-                    put_variables(edits, next)?;
+                    put_variables(edits, next);
                 }
             }
         }
     }
-    Ok(())
+    edits.lacks |= waiting.lacks;
 }

@@ -1,5 +1,6 @@
 //! Names whose type no skeleton says: those of parameters with a default, which may be left out there, and those in patterns, of which a skeleton has no names.
 use crate::statements::{push_names, push_parts};
+use fast_check_source_heights::Waiting;
 use fast_check_source_references::names::id_of;
 use fast_check_tree_forms_classes::{Constructor, Function, Param, TsParamProp};
 use fast_check_tree_forms_expressions::{
@@ -53,26 +54,28 @@ fn asserted(part: Part<'_>) -> Option<(Part<'_>, Part<'_>)> {
     }
 }
 
-fn push_look<'a>(
-    part: Part<'a>,
-    is_asserted: bool,
-    waiting: &mut Vec<Look<'a>>,
-) -> Result<(), AllocError> {
-    waiting.push(Look { part, is_asserted })?;
-    Ok(())
-}
-
 // Pushes the parts of a part of a value that are not judged by themselves.
-fn push_looks<'a>(look: Look<'a>, waiting: &mut Vec<Look<'a>>) -> Result<(), AllocError> {
+fn push_looks<'a>(look: Look<'a>, waiting: &mut Waiting<Look<'a>>) {
     let Look { part, is_asserted } = look;
     if let Some((expr, type_ann)) = asserted(part) {
-        push_look(expr, true, waiting)?;
-        return push_look(type_ann, true, waiting);
+        for part in [expr, type_ann] {
+            waiting.push(Look {
+                part,
+                is_asserted: true,
+            });
+        }
+        return;
     }
     match part.kind() {
-        Kind::BlockStmt => Ok(()),
-        Kind::BindingIdent => push_look(BindingIdent::of(part).type_ann, is_asserted, waiting),
-        Kind::AssignPat => push_look(AssignPat::of(part).left, is_asserted, waiting),
+        Kind::BlockStmt => {}
+        Kind::BindingIdent => {
+            let part = BindingIdent::of(part).type_ann;
+            waiting.push(Look { part, is_asserted });
+        }
+        Kind::AssignPat => {
+            let part = AssignPat::of(part).left;
+            waiting.push(Look { part, is_asserted });
+        }
         Kind::ArrowExpr => {
             let ArrowExpr {
                 params,
@@ -80,15 +83,17 @@ fn push_looks<'a>(look: Look<'a>, waiting: &mut Vec<Look<'a>>) -> Result<(), All
                 return_type,
                 ..
             } = ArrowExpr::of(part);
-            push_look(params, is_asserted, waiting)?;
-            push_look(type_params, is_asserted, waiting)?;
-            push_look(return_type, is_asserted, waiting)
+            for part in [params, type_params, return_type] {
+                waiting.push(Look { part, is_asserted });
+            }
         }
         _ => {
             for inner in part.parts() {
-                push_look(inner.read(), is_asserted, waiting)?;
+                waiting.push(Look {
+                    part: inner.read(),
+                    is_asserted,
+                });
             }
-            Ok(())
         }
     }
 }
@@ -132,8 +137,8 @@ impl Unsaid {
             alloc,
             names: BTreeMap::new(alloc),
         };
-        let mut waiting = Vec::new(alloc);
-        waiting.push(program)?;
+        let mut waiting = Waiting::new(alloc);
+        waiting.push(program);
         for _turn in 0..u64::MAX {
             let Some(next) = waiting.pop() else {
                 break;
@@ -146,9 +151,13 @@ impl Unsaid {
                 Kind::SetterProp => unsaid.add(SetterProp::of(next).param)?,
                 _ => {}
             }
-            push_parts(next, &mut waiting)?;
+            push_parts(next, &mut waiting);
         }
-        Ok(unsaid)
+        if waiting.lacks {
+            Err(AllocError)
+        } else {
+            Ok(unsaid)
+        }
     }
 
     /// Whether such a name stands in a value.
@@ -156,11 +165,11 @@ impl Unsaid {
         if self.names.is_empty() {
             return Ok(false);
         }
-        let mut waiting = Vec::new(self.alloc);
+        let mut waiting = Waiting::new(self.alloc);
         waiting.push(Look {
             part: value,
             is_asserted: false,
-        })?;
+        });
         for _turn in 0..u64::MAX {
             let Some(look) = waiting.pop() else {
                 break;
@@ -171,9 +180,13 @@ impl Unsaid {
                     _ => {}
                 }
             } else {
-                push_looks(look, &mut waiting)?;
+                push_looks(look, &mut waiting);
             }
         }
-        Ok(false)
+        if waiting.lacks {
+            Err(AllocError)
+        } else {
+            Ok(false)
+        }
     }
 }

@@ -3,6 +3,7 @@ use crate::edits::{Edits, edited};
 use crate::members::put_static_names;
 use crate::statements::{push_parts, put_statements};
 use crate::unsaid::Unsaid;
+use fast_check_source_heights::Waiting;
 use fast_check_tree_forms_classes::Class;
 use fast_check_tree_forms_expressions::{ArrowExpr, AssignPat};
 use fast_check_tree_syntax::{Kind, Part, Tree};
@@ -16,14 +17,15 @@ struct Values {
 }
 
 impl Values {
-    fn told(&mut self, value: Part<'_>) -> Result<(), AllocError> {
-        if self.unsaid.stands_in(value)? {
-            self.edits.hide(value)?;
+    fn told(&mut self, value: Part<'_>) {
+        match self.unsaid.stands_in(value) {
+            Ok(true) => self.edits.hide(value),
+            Ok(false) => {}
+            Err(_) => self.edits.lacks = true,
         }
-        Ok(())
     }
 
-    fn part(&mut self, part: Part<'_>) -> Result<(), AllocError> {
+    fn part(&mut self, part: Part<'_>) {
         match part.kind() {
             Kind::ArrowExpr => {
                 let ArrowExpr {
@@ -32,14 +34,12 @@ impl Values {
                     ..
                 } = ArrowExpr::of(part);
                 if body.kind() != Kind::BlockStmt && return_type.is_absent() {
-                    self.told(body)
-                } else {
-                    Ok(())
+                    self.told(body);
                 }
             }
             Kind::AssignPat => self.told(AssignPat::of(part).right),
             Kind::Class => put_static_names(&mut self.edits, Class::of(part).body),
-            _ => Ok(()),
+            _ => {}
         }
     }
 }
@@ -50,25 +50,26 @@ fn edits_of_values(alloc: Global, program: Part<'_>) -> Result<Edits, AllocError
         unsaid: Unsaid::of(alloc, program)?,
         edits: Edits::new(alloc),
     };
-    let mut waiting = Vec::new(alloc);
-    waiting.push(program)?;
+    let mut waiting = Waiting::new(alloc);
+    waiting.push(program);
     for _turn in 0..u64::MAX {
         let Some(next) = waiting.pop() else {
             break;
         };
         if next.kind() != Kind::BlockStmt {
-            values.part(next)?;
-            push_parts(next, &mut waiting)?;
+            values.part(next);
+            push_parts(next, &mut waiting);
         }
     }
-    let Values { edits, .. } = values;
+    let Values { mut edits, .. } = values;
+    edits.lacks |= waiting.lacks;
     Ok(edits)
 }
 
 /// A tree in which the names have the numbers of their scopes, without what the program would take for something else.
 pub fn mended(alloc: Global, tree: Tree) -> Result<Tree, AllocError> {
     let mut statements = Edits::new(alloc);
-    put_statements(&mut statements, tree.read())?;
+    put_statements(&mut statements, tree.read());
     let tree = edited(alloc, tree, &statements)?;
     let values = edits_of_values(alloc, tree.read())?;
     edited(alloc, tree, &values)

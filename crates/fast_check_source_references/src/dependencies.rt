@@ -23,77 +23,97 @@ pub enum Dependency {
     Import(String, Vec<String>),
 }
 
-/// The references of a declaration, each with its place among them.
+/// The references of a declaration, each with its place among them. Where memory runs out one is left out, and they say so.
 #[derive(Drop)]
 pub struct Dependencies {
     pub alloc: Global,
+    pub lacks: bool,
     pub found: BTreeMap<(Dependency, Space), usize>,
 }
 
-fn owned(alloc: Global, names: &[&str]) -> Result<Vec<String>, AllocError> {
-    let mut made = Vec::new(alloc);
+fn push_owned(alloc: Global, names: &[&str], out: &mut Vec<String>) -> Result<(), AllocError> {
     for name in names {
-        made.push(String::from_str(alloc, *name)?)?;
+        out.push(String::from_str(alloc, *name)?)?;
     }
-    Ok(made)
+    Ok(())
+}
+
+// A name with those behind it, where something may bind it.
+fn chained(alloc: Global, chain: Chain<'_>) -> Result<Option<Dependency>, AllocError> {
+    let Some(id) = bound_id(alloc, chain.first)? else {
+        return Ok(None);
+    };
+    if chain.names.is_empty() {
+        return Ok(Some(Dependency::Name(id)));
+    }
+    let mut names = Vec::new(alloc);
+    push_owned(alloc, chain.names.as_slice(), &mut names)?;
+    Ok(Some(Dependency::Part(id, names)))
+}
+
+// `import("a").b`, without its type arguments.
+fn imported(alloc: Global, arg: Part<'_>, qualifier: Part<'_>) -> Result<Dependency, AllocError> {
+    let specifier = String::from_str(alloc, Str::of(arg).value)?;
+    let mut names = Vec::new(alloc);
+    if !qualifier.is_absent() {
+        let chain = entity_chain(alloc, qualifier)?;
+        names.push(String::from_str(alloc, text_of(chain.first))?)?;
+        push_owned(alloc, chain.names.as_slice(), &mut names)?;
+    }
+    Ok(Dependency::Import(specifier, names))
 }
 
 impl Dependencies {
     pub fn new(alloc: Global) -> Dependencies {
         Dependencies {
             alloc,
+            lacks: false,
             found: BTreeMap::new(alloc),
         }
     }
 
     /// Adds a reference, if it is new.
-    pub fn add(&mut self, dependency: Dependency, space: Space) -> Result<(), AllocError> {
+    pub fn add(&mut self, dependency: Dependency, space: Space) {
         let key = (dependency, space);
         if self.found.get(&key).is_none() {
             let place = self.found.len();
-            let _ = self.found.insert(key, place)?;
+            if self.found.insert(key, place).is_err() {
+                self.lacks = true;
+            }
         }
-        Ok(())
+    }
+
+    /// A name with those behind it, where something may bind it.
+    pub fn chain(&mut self, chain: Chain<'_>, space: Space) {
+        match chained(self.alloc, chain) {
+            Ok(Some(dependency)) => self.add(dependency, space),
+            Ok(None) => {}
+            Err(_) => self.lacks = true,
+        }
     }
 
     /// A name, where something may bind it.
-    pub fn name(&mut self, part: Part<'_>, space: Space) -> Result<(), AllocError> {
-        match bound_id(self.alloc, part)? {
-            Some(id) => self.add(Dependency::Name(id), space),
-            None => Ok(()),
+    pub fn name(&mut self, part: Part<'_>, space: Space) {
+        match bound_id(self.alloc, part) {
+            Ok(Some(id)) => self.add(Dependency::Name(id), space),
+            Ok(None) => {}
+            Err(_) => self.lacks = true,
         }
     }
 
-    /// A name with those behind it.
-    pub fn chain(&mut self, chain: Chain<'_>, space: Space) -> Result<(), AllocError> {
-        if chain.names.is_empty() {
-            return self.name(chain.first, space);
+    /// `a.b.c` as a type.
+    pub fn entity(&mut self, entity: Part<'_>, space: Space) {
+        match entity_chain(self.alloc, entity) {
+            Ok(chain) => self.chain(chain, space),
+            Err(_) => self.lacks = true,
         }
-        match bound_id(self.alloc, chain.first)? {
-            Some(id) => {
-                let names = owned(self.alloc, chain.names.as_slice())?;
-                self.add(Dependency::Part(id, names), space)
-            }
-            None => Ok(()),
-        }
-    }
-
-    pub fn entity(&mut self, entity: Part<'_>, space: Space) -> Result<(), AllocError> {
-        let chain = entity_chain(self.alloc, entity)?;
-        self.chain(chain, space)
     }
 
     /// `import("a").b`, without its type arguments.
-    pub fn import(&mut self, arg: Part<'_>, qualifier: Part<'_>) -> Result<(), AllocError> {
-        let mut names = Vec::new(self.alloc);
-        if !qualifier.is_absent() {
-            let chain = entity_chain(self.alloc, qualifier)?;
-            names.push(String::from_str(self.alloc, text_of(chain.first))?)?;
-            for name in chain.names.iter() {
-                names.push(String::from_str(self.alloc, *name)?)?;
-            }
+    pub fn import(&mut self, arg: Part<'_>, qualifier: Part<'_>) {
+        match imported(self.alloc, arg, qualifier) {
+            Ok(dependency) => self.add(dependency, Space::Both),
+            Err(_) => self.lacks = true,
         }
-        let specifier = String::from_str(self.alloc, Str::of(arg).value)?;
-        self.add(Dependency::Import(specifier, names), Space::Both)
     }
 }

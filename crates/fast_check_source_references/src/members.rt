@@ -8,11 +8,10 @@ use fast_check_tree_forms_types::{
     TsPropertySignature, TsSetterSignature,
 };
 use fast_check_tree_syntax::{Kind, Part};
-use std::alloc::AllocError;
 
 impl Dependencies {
     /// What a member of a class refers to.
-    pub fn class_member(&mut self, member: Part<'_>) -> Result<(), AllocError> {
+    pub fn class_member(&mut self, member: Part<'_>) {
         match member.kind() {
             Kind::Constructor => {
                 let Constructor { params, body, .. } = Constructor::of(member);
@@ -41,15 +40,15 @@ impl Dependencies {
                     type_ann,
                     ..
                 } = TsIndexSignature::of(member);
-                self.written(params)?;
+                self.written(params);
                 self.written(type_ann)
             }
-            _ => Ok(()),
+            _ => {}
         }
     }
 
     /// What a member of an interface refers to.
-    pub fn signature_member(&mut self, member: Part<'_>) -> Result<(), AllocError> {
+    pub fn signature_member(&mut self, member: Part<'_>) {
         match member.kind() {
             Kind::TsPropertySignature => self.written(TsPropertySignature::of(member).type_ann),
             Kind::TsGetterSignature => self.written(TsGetterSignature::of(member).type_ann),
@@ -61,8 +60,8 @@ impl Dependencies {
                     type_params,
                     ..
                 } = TsMethodSignature::of(member);
-                self.written(type_params)?;
-                self.written(params)?;
+                self.written(type_params);
+                self.written(params);
                 self.written(type_ann)
             }
             Kind::TsCallSignatureDecl => {
@@ -72,8 +71,8 @@ impl Dependencies {
                     type_params,
                     ..
                 } = TsCallSignatureDecl::of(member);
-                self.written(type_params)?;
-                self.written(params)?;
+                self.written(type_params);
+                self.written(params);
                 self.written(type_ann)
             }
             Kind::TsConstructSignatureDecl => {
@@ -83,8 +82,8 @@ impl Dependencies {
                     type_params,
                     ..
                 } = TsConstructSignatureDecl::of(member);
-                self.written(type_params)?;
-                self.written(params)?;
+                self.written(type_params);
+                self.written(params);
                 self.written(type_ann)
             }
             _ => self.class_member(member),

@@ -1,4 +1,5 @@
 //! The type that the only return of a function asserts.
+use fast_check_source_heights::Waiting;
 use fast_check_tree_forms_expressions::{ParenExpr, TsAsExpr, TsSatisfiesExpr, TsTypeAssertion};
 use fast_check_tree_forms_statements::{
     BlockStmt, CatchClause, DoWhileStmt, ForInStmt, ForOfStmt, ForStmt, IfStmt, LabeledStmt,
@@ -25,7 +26,7 @@ fn asserted(value: Part<'_>) -> Option<Part<'_>> {
 }
 
 // Pushes the statements within one that are of the same function.
-fn push_inner<'a>(stmt: Part<'a>, waiting: &mut Vec<Part<'a>>) -> Result<(), AllocError> {
+fn push_inner<'a>(stmt: Part<'a>, waiting: &mut Waiting<Part<'a>>) {
     let inner = match stmt.kind() {
         Kind::WithStmt => WithStmt::of(stmt).body,
         Kind::LabeledStmt => LabeledStmt::of(stmt).body,
@@ -35,28 +36,21 @@ fn push_inner<'a>(stmt: Part<'a>, waiting: &mut Vec<Part<'a>>) -> Result<(), All
         Kind::ForStmt => ForStmt::of(stmt).body,
         Kind::ForInStmt => ForInStmt::of(stmt).body,
         Kind::ForOfStmt => ForOfStmt::of(stmt).body,
-        Kind::BlockStmt => return push_parts(BlockStmt::of(stmt).stmts, waiting),
-        Kind::SwitchStmt => return push_parts(SwitchStmt::of(stmt).cases, waiting),
-        Kind::SwitchCase => return push_parts(SwitchCase::of(stmt).cons, waiting),
+        Kind::List => return waiting.push_parts(stmt),
+        Kind::BlockStmt => return waiting.push_parts(BlockStmt::of(stmt).stmts),
+        Kind::SwitchStmt => return waiting.push_parts(SwitchStmt::of(stmt).cases),
+        Kind::SwitchCase => return waiting.push_parts(SwitchCase::of(stmt).cons),
         _ => return push_branches(stmt, waiting),
     };
-    waiting.push(inner)?;
-    Ok(())
+    waiting.push(inner);
 }
 
-fn push_parts<'a>(list: Part<'a>, waiting: &mut Vec<Part<'a>>) -> Result<(), AllocError> {
-    for part in list.parts() {
-        waiting.push(part.read())?;
-    }
-    Ok(())
-}
-
-fn push_branches<'a>(stmt: Part<'a>, waiting: &mut Vec<Part<'a>>) -> Result<(), AllocError> {
+fn push_branches<'a>(stmt: Part<'a>, waiting: &mut Waiting<Part<'a>>) {
     match stmt.kind() {
         Kind::IfStmt => {
             let IfStmt { cons, alt, .. } = IfStmt::of(stmt);
-            waiting.push(cons)?;
-            waiting.push(alt)?;
+            waiting.push(cons);
+            waiting.push(alt);
         }
         Kind::TryStmt => {
             let TryStmt {
@@ -65,19 +59,18 @@ fn push_branches<'a>(stmt: Part<'a>, waiting: &mut Vec<Part<'a>>) -> Result<(), 
                 finalizer,
                 ..
             } = TryStmt::of(stmt);
-            waiting.push(block)?;
-            waiting.push(handler)?;
-            waiting.push(finalizer)?;
+            waiting.push(block);
+            waiting.push(handler);
+            waiting.push(finalizer);
         }
         _ => {}
     }
-    Ok(())
 }
 
 // Whether one statement of a list returns, and no other.
 fn returns_once(alloc: Global, stmts: Part<'_>) -> Result<bool, AllocError> {
-    let mut waiting = Vec::new(alloc);
-    push_parts(stmts, &mut waiting)?;
+    let mut waiting = Waiting::new(alloc);
+    waiting.push(stmts);
     let mut has_one = false;
     for _turn in 0..u64::MAX {
         let Some(next) = waiting.pop() else {
@@ -89,9 +82,13 @@ fn returns_once(alloc: Global, stmts: Part<'_>) -> Result<bool, AllocError> {
             }
             has_one = true;
         }
-        push_inner(next, &mut waiting)?;
+        push_inner(next, &mut waiting);
     }
-    Ok(has_one)
+    if waiting.lacks {
+        Err(AllocError)
+    } else {
+        Ok(has_one)
+    }
 }
 
 /// The type that the only return of a function asserts, where that is its last statement.

@@ -3,6 +3,7 @@ use crate::dependencies::{Dependencies, Space};
 use crate::functions::type_of_pattern;
 use crate::names::{UNRESOLVED, computed_of, value_chain};
 use crate::returns::asserted_result;
+use fast_check_source_heights::Waiting;
 use fast_check_tree_forms_classes::{Function, Param, TsParamProp};
 use fast_check_tree_forms_expressions::{
     ArrayLit, ArrowExpr, AssignPat, AssignProp, AwaitExpr, BinExpr, CallExpr, CondExpr,
@@ -13,7 +14,7 @@ use fast_check_tree_forms_expressions::{
 use fast_check_tree_forms_programs::{Ident, IdentName};
 use fast_check_tree_forms_types::{TsImportType, TsTypeQuery, TsTypeRef};
 use fast_check_tree_syntax::{Kind, Part};
-use std::alloc::{AllocError, Global};
+use std::alloc::Global;
 
 fn is_global_object(part: Part<'_>) -> bool {
     if part.kind() != Kind::Ident {
@@ -75,39 +76,33 @@ struct Task<'a> {
 #[derive(Drop)]
 pub struct Walk<'a> {
     alloc: Global,
-    waiting: Vec<Task<'a>>,
+    waiting: Waiting<Task<'a>>,
 }
 
 impl<'a> Walk<'a> {
     pub fn new(alloc: Global) -> Walk<'a> {
         Walk {
             alloc,
-            waiting: Vec::new(alloc),
+            waiting: Waiting::new(alloc),
         }
     }
 
     /// Has a part looked at before all that waits so far.
-    pub fn push(&mut self, way: Way, part: Part<'a>) -> Result<(), AllocError> {
+    pub fn push(&mut self, way: Way, part: Part<'a>) {
         if part.kind() != Kind::Leaf {
-            self.waiting.push(Task { part, way })?;
+            self.waiting.push(Task { part, way });
         }
-        Ok(())
     }
 
     // Has the parts of a part looked at, the first one first.
-    fn push_each(&mut self, way: Way, part: Part<'a>) -> Result<(), AllocError> {
+    fn push_each(&mut self, way: Way, part: Part<'a>) {
         for inner in part.parts().iter().rev() {
-            self.push(way, inner.read())?;
+            self.push(way, inner.read());
         }
-        Ok(())
     }
 
     /// A type if it is written, else the value.
-    pub fn push_type_or_value(
-        &mut self,
-        type_ann: Part<'a>,
-        value: Part<'a>,
-    ) -> Result<(), AllocError> {
+    pub fn push_type_or_value(&mut self, type_ann: Part<'a>, value: Part<'a>) {
         if type_ann.is_absent() {
             self.push(Way::Value, value)
         } else {
@@ -123,18 +118,22 @@ impl<'a> Walk<'a> {
         return_type: Part<'a>,
         body: Part<'a>,
         is_generator: bool,
-    ) -> Result<(), AllocError> {
-        if !return_type.is_absent() {
-            self.push(Way::Written, return_type)?;
-        } else if let Some(found) = asserted_result(self.alloc, body, is_generator)? {
-            self.push(Way::Written, found)?;
+    ) {
+        if return_type.is_absent() {
+            match asserted_result(self.alloc, body, is_generator) {
+                Ok(Some(found)) => self.push(Way::Written, found),
+                Ok(None) => {}
+                Err(_) => self.waiting.lacks = true,
+            }
+        } else {
+            self.push(Way::Written, return_type);
         }
-        self.push_each(Way::Parameter, params)?;
+        self.push_each(Way::Parameter, params);
         self.push(Way::Written, type_params)
     }
 
     /// The types of a function.
-    pub fn push_function(&mut self, function: Part<'a>) -> Result<(), AllocError> {
+    pub fn push_function(&mut self, function: Part<'a>) {
         let Function {
             params,
             body,
@@ -146,7 +145,7 @@ impl<'a> Walk<'a> {
         self.push_signature(type_params, params, return_type, body, is_generator)
     }
 
-    fn push_arrow(&mut self, arrow: Part<'a>) -> Result<(), AllocError> {
+    fn push_arrow(&mut self, arrow: Part<'a>) {
         let ArrowExpr {
             params,
             body,
@@ -156,29 +155,29 @@ impl<'a> Walk<'a> {
             ..
         } = ArrowExpr::of(arrow);
         if return_type.is_absent() && body.kind() != Kind::BlockStmt {
-            self.push(Way::Value, body)?;
+            self.push(Way::Value, body);
         }
         self.push_signature(type_params, params, return_type, body, is_generator)
     }
 
     /// Looks at all that waits.
-    pub fn run(&mut self, out: &mut Dependencies) -> Result<(), AllocError> {
+    pub fn run(&mut self, out: &mut Dependencies) {
         for _turn in 0..u64::MAX {
             let Some(task) = self.waiting.pop() else {
                 break;
             };
             match task.way {
-                Way::Written => self.written(task.part, out)?,
-                Way::Value => self.value(task.part, out)?,
-                Way::Property => self.property(task.part, out)?,
-                Way::Parameter => self.parameter(task.part)?,
+                Way::Written => self.written(task.part, out),
+                Way::Value => self.value(task.part, out),
+                Way::Property => self.property(task.part, out),
+                Way::Parameter => self.parameter(task.part),
             }
         }
-        Ok(())
+        out.lacks |= self.waiting.lacks;
     }
 
     // All that a part of a tree refers to which stands as it is written.
-    fn written(&mut self, part: Part<'a>, out: &mut Dependencies) -> Result<(), AllocError> {
+    fn written(&mut self, part: Part<'a>, out: &mut Dependencies) {
         match part.kind() {
             Kind::TsTypeRef => {
                 let TsTypeRef {
@@ -186,7 +185,7 @@ impl<'a> Walk<'a> {
                     type_params,
                     ..
                 } = TsTypeRef::of(part);
-                out.entity(type_name, Space::Type)?;
+                out.entity(type_name, Space::Type);
                 self.push(Way::Written, type_params)
             }
             Kind::TsTypeQuery => {
@@ -195,7 +194,7 @@ impl<'a> Walk<'a> {
                     type_args,
                     ..
                 } = TsTypeQuery::of(part);
-                self.push(Way::Written, type_args)?;
+                self.push(Way::Written, type_args);
                 if expr_name.kind() == Kind::TsImportType {
                     self.push(Way::Written, expr_name)
                 } else {
@@ -209,7 +208,7 @@ impl<'a> Walk<'a> {
                     type_args,
                     ..
                 } = TsImportType::of(part);
-                out.import(arg, qualifier)?;
+                out.import(arg, qualifier);
                 self.push(Way::Written, type_args)
             }
             Kind::MemberExpr => self.member(part, out),
@@ -219,18 +218,21 @@ impl<'a> Walk<'a> {
     }
 
     // A member, whole where it is names alone.
-    fn member(&mut self, member: Part<'a>, out: &mut Dependencies) -> Result<(), AllocError> {
-        if let Some(chain) = value_chain(self.alloc, member)? {
-            return out.chain(chain, Space::Value);
+    fn member(&mut self, member: Part<'a>, out: &mut Dependencies) {
+        match value_chain(self.alloc, member) {
+            Ok(Some(chain)) => out.chain(chain, Space::Value),
+            Ok(None) => {
+                let MemberExpr { obj, prop, .. } = MemberExpr::of(member);
+                if let Some(expr) = computed_of(prop) {
+                    self.push(Way::Value, expr);
+                }
+                self.push(Way::Value, obj);
+            }
+            Err(_) => self.waiting.lacks = true,
         }
-        let MemberExpr { obj, prop, .. } = MemberExpr::of(member);
-        if let Some(expr) = computed_of(prop) {
-            self.push(Way::Value, expr)?;
-        }
-        self.push(Way::Value, obj)
     }
 
-    fn value(&mut self, value: Part<'a>, out: &mut Dependencies) -> Result<(), AllocError> {
+    fn value(&mut self, value: Part<'a>, out: &mut Dependencies) {
         if let Some(inner) = inner_of(value) {
             return self.push(Way::Value, inner);
         }
@@ -241,7 +243,7 @@ impl<'a> Walk<'a> {
             Kind::TsTypeAssertion => self.push(Way::Written, TsTypeAssertion::of(value).type_ann),
             Kind::TsSatisfiesExpr => {
                 let TsSatisfiesExpr { expr, type_ann, .. } = TsSatisfiesExpr::of(value);
-                self.push(Way::Written, type_ann)?;
+                self.push(Way::Written, type_ann);
                 self.push(Way::Value, expr)
             }
             Kind::FnExpr => self.push_function(FnExpr::of(value).function),
@@ -252,13 +254,13 @@ impl<'a> Walk<'a> {
     }
 
     // A value of several values.
-    fn composed(&mut self, value: Part<'a>) -> Result<(), AllocError> {
+    fn composed(&mut self, value: Part<'a>) {
         match value.kind() {
             Kind::ArrayLit => self.push_each(Way::Value, ArrayLit::of(value).elems),
             Kind::ObjectLit => self.push_each(Way::Property, ObjectLit::of(value).props),
             Kind::BinExpr => {
                 let BinExpr { left, right, .. } = BinExpr::of(value);
-                self.push(Way::Value, right)?;
+                self.push(Way::Value, right);
                 self.push(Way::Value, left)
             }
             Kind::CondExpr => {
@@ -268,38 +270,38 @@ impl<'a> Walk<'a> {
                     alt,
                     ..
                 } = CondExpr::of(value);
-                self.push(Way::Value, alt)?;
-                self.push(Way::Value, cons)?;
+                self.push(Way::Value, alt);
+                self.push(Way::Value, cons);
                 self.push(Way::Value, test)
             }
             Kind::NewExpr => {
                 let NewExpr { callee, args, .. } = NewExpr::of(value);
-                self.push_each(Way::Value, args)?;
+                self.push_each(Way::Value, args);
                 self.push(Way::Value, callee)
             }
             Kind::Tpl => self.push_each(Way::Value, Tpl::of(value).exprs),
-            _ => Ok(()),
+            _ => {}
         }
     }
 
-    fn property(&mut self, property: Part<'a>, out: &mut Dependencies) -> Result<(), AllocError> {
+    fn property(&mut self, property: Part<'a>, out: &mut Dependencies) {
         match property.kind() {
             Kind::SpreadElement => self.push(Way::Value, SpreadElement::of(property).expr),
             Kind::Ident => out.name(property, Space::Value),
             Kind::AssignProp => self.push(Way::Value, AssignProp::of(property).value),
             Kind::KeyValueProp => {
                 let KeyValueProp { key, value } = KeyValueProp::of(property);
-                self.push(Way::Value, value)?;
+                self.push(Way::Value, value);
                 match computed_of(key) {
                     Some(expr) => self.push(Way::Value, expr),
-                    None => Ok(()),
+                    None => {}
                 }
             }
-            _ => Ok(()),
+            _ => {}
         }
     }
 
-    fn parameter(&mut self, param: Part<'a>) -> Result<(), AllocError> {
+    fn parameter(&mut self, param: Part<'a>) {
         match param.kind() {
             Kind::Param => self.push(Way::Parameter, Param::of(param).pat),
             Kind::TsParamProp => self.push(Way::Parameter, TsParamProp::of(param).param),
@@ -309,7 +311,7 @@ impl<'a> Walk<'a> {
             }
             Kind::RestPat => {
                 let RestPat { arg, type_ann, .. } = RestPat::of(param);
-                self.push(Way::Parameter, arg)?;
+                self.push(Way::Parameter, arg);
                 self.push(Way::Written, type_ann)
             }
             _ => self.push(Way::Written, type_of_pattern(param)),

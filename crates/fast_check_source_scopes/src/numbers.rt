@@ -14,22 +14,25 @@ pub enum Numbered {
     Class,
 }
 
-/// The numbers of nodes, by what they are and where they begin.
+/// The numbers of nodes, by what they are and where they begin. Where memory runs out one is left out, and it says so.
 #[derive(Drop)]
 pub struct Numbers {
+    pub lacks: bool,
     found: BTreeMap<(Numbered, u32), u32>,
 }
 
 impl Numbers {
     pub fn new(alloc: Global) -> Numbers {
         Numbers {
+            lacks: false,
             found: BTreeMap::new(alloc),
         }
     }
 
-    pub fn set(&mut self, what: Numbered, start: u32, number: u32) -> Result<(), AllocError> {
-        let _ = self.found.insert((what, start), number)?;
-        Ok(())
+    pub fn set(&mut self, what: Numbered, start: u32, number: u32) {
+        if self.found.insert((what, start), number).is_err() {
+            self.lacks = true;
+        }
     }
 
     fn get(&self, kind: Kind, parts: &[Tree]) -> u32 {

@@ -69,10 +69,11 @@ struct Scope {
 #[derive(Clone, Copy, PartialEq, Eq)]
 pub struct GroupNo(pub usize);
 
-/// The scopes of a module. The first one is that of its top.
+/// The scopes of a module. The first one is that of its top. Where memory runs out something is left out, and they say so.
 #[derive(Drop)]
 pub struct Scopes {
-    alloc: Global,
+    pub alloc: Global,
+    pub lacks: bool,
     scopes: Vec<Scope>,
     groups: Vec<Vec<ScopeNo>>,
 }
@@ -103,45 +104,47 @@ impl Scopes {
     pub fn new(alloc: Global) -> Scopes {
         Scopes {
             alloc,
+            lacks: false,
             scopes: Vec::new(alloc),
             groups: Vec::new(alloc),
         }
     }
 
-    pub fn alloc(&self) -> Global {
-        self.alloc
-    }
-
-    pub fn open(&mut self, parent: Option<ScopeNo>) -> Result<ScopeNo, AllocError> {
+    pub fn open(&mut self, parent: Option<ScopeNo>) -> ScopeNo {
         let no = ScopeNo(self.scopes.len());
-        self.scopes.push(Scope {
+        let scope = Scope {
             parent,
             names: BTreeMap::new(self.alloc),
             shown: BTreeMap::new(self.alloc),
             joined: None,
-        })?;
-        Ok(no)
+        };
+        if self.scopes.push(scope).is_err() {
+            self.lacks = true;
+        }
+        no
     }
 
-    pub fn bind(&mut self, scope: ScopeNo, name: &str, meaning: Meaning) -> Result<(), AllocError> {
+    pub fn bind(&mut self, scope: ScopeNo, name: &str, meaning: Meaning) {
         let alloc = self.alloc;
         if let Some(found) = self.scopes.get_mut(scope.0) {
-            bind_in(&mut found.names, alloc, name, meaning)?;
+            if bind_in(&mut found.names, alloc, name, meaning).is_err() {
+                self.lacks = true;
+            }
         }
-        Ok(())
     }
 
     /// Binds a name that a block shows to the other blocks of its namespace or enum.
-    pub fn show(&mut self, scope: ScopeNo, name: &str, meaning: Meaning) -> Result<(), AllocError> {
+    pub fn show(&mut self, scope: ScopeNo, name: &str, meaning: Meaning) {
         let alloc = self.alloc;
         if let Some(found) = self.scopes.get_mut(scope.0) {
-            bind_in(&mut found.shown, alloc, name, meaning)?;
+            if bind_in(&mut found.shown, alloc, name, meaning).is_err() {
+                self.lacks = true;
+            }
         }
-        Ok(())
     }
 
     /// Shows what a scope binds.
-    pub fn show_all(&mut self, scope: ScopeNo, from: ScopeNo) -> Result<(), AllocError> {
+    pub fn show_all(&mut self, scope: ScopeNo, from: ScopeNo) {
         let mut names: BTreeMap<Atom, Meaning> = BTreeMap::new(self.alloc);
         if let Some(found) = self.scopes.get_mut(from.0) {
             std::mem::swap(&mut names, &mut found.names);
@@ -149,24 +152,26 @@ impl Scopes {
         if let Some(found) = self.scopes.get_mut(scope.0) {
             found.shown = names;
         }
-        Ok(())
     }
 
-    pub fn group(&mut self) -> Result<GroupNo, AllocError> {
+    pub fn group(&mut self) -> GroupNo {
         let no = GroupNo(self.groups.len());
-        self.groups.push(Vec::new(self.alloc))?;
-        Ok(no)
+        if self.groups.push(Vec::new(self.alloc)).is_err() {
+            self.lacks = true;
+        }
+        no
     }
 
     /// Joins the scope of a block with those of a group.
-    pub fn join(&mut self, group: GroupNo, scope: ScopeNo) -> Result<(), AllocError> {
-        if let Some(found) = self.groups.get_mut(group.0) {
-            found.push(scope)?;
+    pub fn join(&mut self, group: GroupNo, scope: ScopeNo) {
+        if let Some(found) = self.groups.get_mut(group.0)
+            && found.push(scope).is_err()
+        {
+            self.lacks = true;
         }
         if let Some(found) = self.scopes.get_mut(scope.0) {
             found.joined = Some(group);
         }
-        Ok(())
     }
 
     // The scope, or one that it is joined with, where that binds the name.

@@ -14,31 +14,21 @@ use fast_check_tree_forms_types::{
     TsPropertySignature, TsQualifiedName, TsSetterSignature, TsTypeParam, TsTypeQuery, TsTypeRef,
 };
 use fast_check_tree_syntax::{Kind, Part};
-use std::alloc::AllocError;
 
 impl<'a> Visit<'a> {
     /// Numbers an identifier that is looked up as this.
-    pub fn resolve(
-        &mut self,
-        scope: ScopeNo,
-        ident: Part<'a>,
-        meaning: Meaning,
-    ) -> Result<(), AllocError> {
+    pub fn resolve(&mut self, scope: ScopeNo, ident: Part<'a>, meaning: Meaning) {
         if ident.kind() == Kind::Ident {
             let Ident { span, sym, .. } = Ident::of(ident);
-            let number = self.scopes.find(scope, sym, meaning)?;
-            self.numbers.set(Numbered::Ident, span.start.0, number)?;
+            match self.scopes.find(scope, sym, meaning) {
+                Ok(number) => self.numbers.set(Numbered::Ident, span.start.0, number),
+                Err(_) => self.scopes.lacks = true,
+            }
         }
-        Ok(())
     }
 
     /// Numbers the first name of a name with dots.
-    pub fn entity(
-        &mut self,
-        scope: ScopeNo,
-        name: Part<'a>,
-        meaning: Meaning,
-    ) -> Result<(), AllocError> {
+    pub fn entity(&mut self, scope: ScopeNo, name: Part<'a>, meaning: Meaning) {
         let mut at = name;
         let mut meaning = meaning;
         for _turn in 0..u64::MAX {
@@ -56,7 +46,7 @@ impl<'a> Visit<'a> {
     }
 
     /// A type whose names need more than a look at its parts, if it is one.
-    pub fn visit_type(&mut self, scope: ScopeNo, ty: Part<'a>) -> Result<(), AllocError> {
+    pub fn visit_type(&mut self, scope: ScopeNo, ty: Part<'a>) {
         match ty.kind() {
             Kind::TsTypeRef => {
                 let TsTypeRef {
@@ -64,7 +54,7 @@ impl<'a> Visit<'a> {
                     type_params,
                     ..
                 } = TsTypeRef::of(ty);
-                self.entity(scope, type_name, TYPE)?;
+                self.entity(scope, type_name, TYPE);
                 self.later(scope, type_params)
             }
             Kind::TsTypeQuery => {
@@ -74,9 +64,9 @@ impl<'a> Visit<'a> {
                     ..
                 } = TsTypeQuery::of(ty);
                 if expr_name.kind() == Kind::TsImportType {
-                    self.later(scope, expr_name)?;
+                    self.later(scope, expr_name);
                 } else {
-                    self.entity(scope, expr_name, VALUE)?;
+                    self.entity(scope, expr_name, VALUE);
                 }
                 self.later(scope, type_args)
             }
@@ -90,15 +80,15 @@ impl<'a> Visit<'a> {
                     default,
                     ..
                 } = TsTypeParam::of(ty);
-                self.resolve(scope, name, TYPE)?;
-                self.later(scope, default)?;
+                self.resolve(scope, name, TYPE);
+                self.later(scope, default);
                 self.later(scope, constraint)
             }
             _ => self.each(scope, ty),
         }
     }
 
-    fn conditional(&mut self, scope: ScopeNo, ty: Part<'a>) -> Result<(), AllocError> {
+    fn conditional(&mut self, scope: ScopeNo, ty: Part<'a>) {
         let TsConditionalType {
             check_type,
             extends_type,
@@ -106,28 +96,28 @@ impl<'a> Visit<'a> {
             false_type,
             ..
         } = TsConditionalType::of(ty);
-        self.later(scope, check_type)?;
-        let inner = self.scopes.open(Some(scope))?;
-        bind_inferred(&mut self.scopes, inner, extends_type)?;
-        self.later(scope, false_type)?;
-        self.later(inner, true_type)?;
+        self.later(scope, check_type);
+        let inner = self.scopes.open(Some(scope));
+        bind_inferred(&mut self.scopes, inner, extends_type);
+        self.later(scope, false_type);
+        self.later(inner, true_type);
         self.later(inner, extends_type)
     }
 
-    fn mapped(&mut self, scope: ScopeNo, ty: Part<'a>) -> Result<(), AllocError> {
+    fn mapped(&mut self, scope: ScopeNo, ty: Part<'a>) {
         let TsMappedType {
             type_param,
             name_type,
             type_ann,
             ..
         } = TsMappedType::of(ty);
-        let inner = self.scopes.open(Some(scope))?;
+        let inner = self.scopes.open(Some(scope));
         let name = TsTypeParam::of(type_param).name;
         if name.kind() == Kind::Ident {
-            self.scopes.bind(inner, Ident::of(name).sym, TYPE)?;
+            self.scopes.bind(inner, Ident::of(name).sym, TYPE);
         }
-        self.later(inner, type_ann)?;
-        self.later(inner, name_type)?;
+        self.later(inner, type_ann);
+        self.later(inner, name_type);
         self.later(inner, type_param)
     }
 
@@ -138,25 +128,23 @@ impl<'a> Visit<'a> {
         params: Part<'a>,
         type_params: Part<'a>,
         type_ann: Part<'a>,
-    ) -> Result<(), AllocError> {
-        let inner = self.scopes.open(Some(scope))?;
-        bind_type_params(&mut self.scopes, inner, type_params)?;
-        bind_pattern(&mut self.scopes, inner, params)?;
-        self.later(inner, type_ann)?;
-        self.later(inner, type_params)?;
+    ) {
+        let inner = self.scopes.open(Some(scope));
+        bind_type_params(&mut self.scopes, inner, type_params);
+        bind_pattern(&mut self.scopes, inner, params);
+        self.later(inner, type_ann);
+        self.later(inner, type_params);
         self.later(inner, params)
     }
 
-    fn key(&mut self, scope: ScopeNo, key: Part<'a>, computed: bool) -> Result<(), AllocError> {
+    fn key(&mut self, scope: ScopeNo, key: Part<'a>, computed: bool) {
         if computed {
             self.later(scope, key)
-        } else {
-            Ok(())
         }
     }
 
     /// A member of an interface or an object type, or an index signature.
-    pub fn visit_member(&mut self, scope: ScopeNo, member: Part<'a>) -> Result<(), AllocError> {
+    pub fn visit_member(&mut self, scope: ScopeNo, member: Part<'a>) {
         match member.kind() {
             Kind::TsPropertySignature => {
                 let TsPropertySignature {
@@ -165,7 +153,7 @@ impl<'a> Visit<'a> {
                     type_ann,
                     ..
                 } = TsPropertySignature::of(member);
-                self.key(scope, key, computed)?;
+                self.key(scope, key, computed);
                 self.later(scope, type_ann)
             }
             Kind::TsGetterSignature => {
@@ -175,7 +163,7 @@ impl<'a> Visit<'a> {
                     type_ann,
                     ..
                 } = TsGetterSignature::of(member);
-                self.key(scope, key, computed)?;
+                self.key(scope, key, computed);
                 self.later(scope, type_ann)
             }
             Kind::TsSetterSignature => {
@@ -185,9 +173,9 @@ impl<'a> Visit<'a> {
                     params,
                     ..
                 } = TsSetterSignature::of(member);
-                self.key(scope, key, computed)?;
-                let inner = self.scopes.open(Some(scope))?;
-                bind_pattern(&mut self.scopes, inner, params)?;
+                self.key(scope, key, computed);
+                let inner = self.scopes.open(Some(scope));
+                bind_pattern(&mut self.scopes, inner, params);
                 self.later(inner, params)
             }
             Kind::TsMethodSignature => {
@@ -199,7 +187,7 @@ impl<'a> Visit<'a> {
                     type_params,
                     ..
                 } = TsMethodSignature::of(member);
-                self.key(scope, key, computed)?;
+                self.key(scope, key, computed);
                 self.signature(scope, params, type_params, type_ann)
             }
             _ => {
@@ -208,16 +196,16 @@ impl<'a> Visit<'a> {
                     type_ann,
                     ..
                 } = TsIndexSignature::of(member);
-                let inner = self.scopes.open(Some(scope))?;
-                bind_pattern(&mut self.scopes, inner, params)?;
-                self.later(inner, type_ann)?;
+                let inner = self.scopes.open(Some(scope));
+                bind_pattern(&mut self.scopes, inner, params);
+                self.later(inner, type_ann);
                 self.later(inner, params)
             }
         }
     }
 
     // What an interface extends or a class implements, before its dots.
-    fn heritage(&mut self, scope: ScopeNo, name: Part<'a>) -> Result<(), AllocError> {
+    fn heritage(&mut self, scope: ScopeNo, name: Part<'a>) {
         let mut at = name;
         let mut meaning = TYPE;
         for _turn in 0..u64::MAX {
@@ -225,7 +213,7 @@ impl<'a> Visit<'a> {
                 break;
             }
             let MemberExpr { obj, prop, .. } = MemberExpr::of(at);
-            self.later(scope, prop)?;
+            self.later(scope, prop);
             meaning = NAMESPACE;
             at = obj;
         }
@@ -237,49 +225,48 @@ impl<'a> Visit<'a> {
     }
 
     /// `A.B<C>` behind `extends` of an interface or `implements`.
-    pub fn heir(&mut self, scope: ScopeNo, part: Part<'a>) -> Result<(), AllocError> {
+    pub fn heir(&mut self, scope: ScopeNo, part: Part<'a>) {
         let TsExprWithTypeArgs {
             expr,
             type_args,
             ..
         } = TsExprWithTypeArgs::of(part);
-        self.heritage(scope, expr)?;
+        self.heritage(scope, expr);
         self.later(scope, type_args)
     }
 
     /// The names that are exported from here.
-    pub fn named_export(&mut self, scope: ScopeNo, export: Part<'a>) -> Result<(), AllocError> {
+    pub fn named_export(&mut self, scope: ScopeNo, export: Part<'a>) {
         let NamedExport {
             specifiers,
             src,
             ..
         } = NamedExport::of(export);
         if !src.is_absent() {
-            return Ok(());
+            return;
         }
         for specifier in specifiers.parts() {
             let specifier = specifier.read();
             if specifier.kind() == Kind::ExportNamedSpecifier {
-                self.resolve(scope, ExportNamedSpecifier::of(specifier).orig, ANY)?;
+                self.resolve(scope, ExportNamedSpecifier::of(specifier).orig, ANY);
             }
         }
-        Ok(())
     }
 
     /// `import a = b.c`
-    pub fn import_equals(&mut self, scope: ScopeNo, import: Part<'a>) -> Result<(), AllocError> {
+    pub fn import_equals(&mut self, scope: ScopeNo, import: Part<'a>) {
         let TsImportEqualsDecl { id, module_ref, .. } = TsImportEqualsDecl::of(import);
-        self.resolve(scope, id, ANY)?;
+        self.resolve(scope, id, ANY);
         if module_ref.kind() == Kind::TsExternalModuleRef {
-            return Ok(());
+            return;
         }
         self.entity(scope, module_ref, ANY)
     }
 
     /// A name as a pattern, with its type.
-    pub fn binding(&mut self, scope: ScopeNo, part: Part<'a>) -> Result<(), AllocError> {
+    pub fn binding(&mut self, scope: ScopeNo, part: Part<'a>) {
         let BindingIdent { id, type_ann } = BindingIdent::of(part);
-        self.resolve(scope, id, VALUE)?;
+        self.resolve(scope, id, VALUE);
         self.later(scope, type_ann)
     }
 }

@@ -5,6 +5,7 @@ use crate::binds::{
 };
 use crate::numbers::{Numbered, Numbers, with_numbers};
 use crate::scope::{ANY, GroupNo, NAMESPACE, ScopeNo, Scopes, TYPE, VALUE, number_of};
+use fast_check_source_heights::Waiting;
 use fast_check_tree_forms_classes::{Class, Constructor, Function, StaticBlock};
 use fast_check_tree_forms_expressions::{ArrowExpr, ClassExpr, FnExpr, GetterProp, SetterProp};
 use fast_check_tree_forms_programs::{
@@ -33,7 +34,7 @@ struct Task<'a> {
     ambient: bool,
 }
 
-/// The scopes that were opened so far, and the numbers that were given.
+/// The scopes that were opened so far, and the numbers that were given. Where memory runs out a part is left out, and one of them says so.
 #[derive(Drop)]
 pub struct Visit<'a> {
     pub scopes: Scopes,
@@ -44,7 +45,7 @@ pub struct Visit<'a> {
     // The scopes of the blocks of namespaces and enums, by where they begin.
     blocks: BTreeMap<u32, ScopeNo>,
     // What is still to be visited, the next part last.
-    waiting: Vec<Task<'a>>,
+    waiting: Waiting<Task<'a>>,
 }
 
 // The declaration that an item is, also behind `export`.
@@ -85,78 +86,81 @@ fn block_of(decl: Part<'_>) -> Option<(bool, &str, u32)> {
 }
 
 impl<'a> Visit<'a> {
-    fn opened(
-        &mut self,
-        what: Numbered,
-        span: SourceRange,
-        scope: ScopeNo,
-    ) -> Result<(), AllocError> {
-        self.numbers.set(what, span.start.0, number_of(scope))
+    fn opened(&mut self, what: Numbered, span: SourceRange, scope: ScopeNo) {
+        self.numbers.set(what, span.start.0, number_of(scope));
     }
 
     // What a block of a namespace or an enum shows to its other blocks.
-    fn show(&mut self, scope: ScopeNo, decl: Part<'a>) -> Result<(), AllocError> {
+    fn show(&mut self, scope: ScopeNo, decl: Part<'a>) {
         if decl.kind() == Kind::TsEnumDecl {
             for member in TsEnumDecl::of(decl).members.parts() {
                 let name = TsEnumMember::of(member.read()).id;
                 if name.kind() == Kind::Ident {
-                    self.scopes.show(scope, Ident::of(name).sym, VALUE)?;
+                    self.scopes.show(scope, Ident::of(name).sym, VALUE);
                 }
             }
-            return Ok(());
+            return;
         }
         let TsModuleDecl { declare, body, .. } = TsModuleDecl::of(decl);
         if body.kind() != Kind::TsModuleBlock {
-            return Ok(());
+            return;
         }
-        let shown = self.scopes.open(None)?;
+        let shown = self.scopes.open(None);
         for item in TsModuleBlock::of(body).body.parts() {
             if self.ambient || declare || is_exported(item.read()) {
-                bind_statement(&mut self.scopes, shown, item.read())?;
-                bind_vars(&mut self.scopes, shown, item.read())?;
+                bind_statement(&mut self.scopes, shown, item.read());
+                bind_vars(&mut self.scopes, shown, item.read());
             }
         }
         self.scopes.show_all(scope, shown)
     }
 
-    /// Opens the scopes of the blocks of namespaces and enums that stand beside one another.
-    fn open_blocks(
+    // Opens the scope of a block of a namespace or an enum, beside those of its other blocks.
+    fn open_block(
         &mut self,
-        alloc: Global,
+        groups: &mut BTreeMap<(bool, Atom), GroupNo>,
         scope: ScopeNo,
-        items: Part<'a>,
+        decl: Part<'a>,
     ) -> Result<(), AllocError> {
-        let mut groups: BTreeMap<(bool, Atom), GroupNo> = BTreeMap::new(alloc);
-        for item in items.parts() {
-            let decl = declared(item.read());
-            if let Some((is_enum, name, start)) = block_of(decl) {
-                let inner = self.scopes.open(Some(scope))?;
-                let _ = self.blocks.insert(start, inner)?;
-                let key = (is_enum, Atom::from_str(alloc, name)?);
-                let group = match groups.get(&key) {
-                    Some(group) => *group,
-                    None => {
-                        let group = self.scopes.group()?;
-                        let _ = groups.insert(key, group)?;
-                        group
-                    }
-                };
-                self.scopes.join(group, inner)?;
-                self.show(inner, decl)?;
+        let Some((is_enum, name, start)) = block_of(decl) else {
+            return Ok(());
+        };
+        let inner = self.scopes.open(Some(scope));
+        self.show(inner, decl);
+        let _ = self.blocks.insert(start, inner)?;
+        let key = (is_enum, Atom::from_str(self.alloc, name)?);
+        let group = match groups.get(&key) {
+            Some(group) => *group,
+            None => {
+                let group = self.scopes.group();
+                let _ = groups.insert(key, group)?;
+                group
             }
-        }
+        };
+        self.scopes.join(group, inner);
         Ok(())
     }
 
+    // Opens the scopes of the blocks of namespaces and enums that stand beside one another.
+    fn open_blocks(&mut self, scope: ScopeNo, items: Part<'a>) {
+        let mut groups: BTreeMap<(bool, Atom), GroupNo> = BTreeMap::new(self.alloc);
+        for item in items.parts() {
+            let decl = declared(item.read());
+            if self.open_block(&mut groups, scope, decl).is_err() {
+                self.scopes.lacks = true;
+            }
+        }
+    }
+
     // The scope of a block, which is open already where it stands beside others.
-    fn block_scope(&mut self, scope: ScopeNo, span: SourceRange) -> Result<ScopeNo, AllocError> {
+    fn block_scope(&mut self, scope: ScopeNo, span: SourceRange) -> ScopeNo {
         match self.blocks.get(&span.start.0) {
-            Some(found) => Ok(*found),
+            Some(found) => *found,
             None => self.scopes.open(Some(scope)),
         }
     }
 
-    fn push(&mut self, scope: ScopeNo, part: Part<'a>, is_body: bool) -> Result<(), AllocError> {
+    fn push(&mut self, scope: ScopeNo, part: Part<'a>, is_body: bool) {
         if part.kind() != Kind::Leaf {
             let ambient = self.ambient;
             self.waiting.push(Task {
@@ -164,47 +168,44 @@ impl<'a> Visit<'a> {
                 scope,
                 is_body,
                 ambient,
-            })?;
+            });
         }
-        Ok(())
     }
 
     /// Has a part visited before all that waits so far.
-    pub fn later(&mut self, scope: ScopeNo, part: Part<'a>) -> Result<(), AllocError> {
+    pub fn later(&mut self, scope: ScopeNo, part: Part<'a>) {
         self.push(scope, part, false)
     }
 
     // The same of the body of a function.
-    fn later_body(&mut self, scope: ScopeNo, body: Part<'a>) -> Result<(), AllocError> {
+    fn later_body(&mut self, scope: ScopeNo, body: Part<'a>) {
         self.push(scope, body, true)
     }
 
     /// Has the parts of a part visited, the first one first.
-    pub fn each(&mut self, scope: ScopeNo, part: Part<'a>) -> Result<(), AllocError> {
+    pub fn each(&mut self, scope: ScopeNo, part: Part<'a>) {
         for inner in part.parts().iter().rev() {
-            self.later(scope, inner.read())?;
+            self.later(scope, inner.read());
         }
-        Ok(())
     }
 
     // Visits what waits.
-    fn visit_all(&mut self) -> Result<(), AllocError> {
+    fn visit_all(&mut self) {
         for _turn in 0..u64::MAX {
             let Some(task) = self.waiting.pop() else {
                 break;
             };
             self.ambient = task.ambient;
             if task.is_body {
-                self.body(task.scope, task.part)?;
+                self.body(task.scope, task.part);
             } else {
-                self.visit(task.scope, task.part)?;
+                self.visit(task.scope, task.part);
             }
         }
-        Ok(())
     }
 
     /// Numbers the names of a part that stands in a scope.
-    fn visit(&mut self, scope: ScopeNo, part: Part<'a>) -> Result<(), AllocError> {
+    fn visit(&mut self, scope: ScopeNo, part: Part<'a>) {
         match part.kind() {
             Kind::Ident => self.resolve(scope, part, VALUE),
             Kind::BindingIdent => self.binding(scope, part),
@@ -279,7 +280,7 @@ impl<'a> Visit<'a> {
             | Kind::CatchClause => { self.statement(scope, part) }
             Kind::LabeledStmt => self.later(scope, LabeledStmt::of(part).body),
             Kind::BreakStmt | Kind::ContinueStmt | Kind::ExportAll | Kind::TsNamespaceExportDecl =>
-                Ok(()),
+                {},
             Kind::ImportDecl => self.import(scope, ImportDecl::of(part).specifiers),
             Kind::NamedExport => self.named_export(scope, part),
             Kind::TsImportEqualsDecl => self.import_equals(scope, part),
@@ -290,7 +291,7 @@ impl<'a> Visit<'a> {
         }
     }
 
-    fn exported(&mut self, scope: ScopeNo, expr: Part<'a>) -> Result<(), AllocError> {
+    fn exported(&mut self, scope: ScopeNo, expr: Part<'a>) {
         if expr.kind() == Kind::Ident {
             self.resolve(scope, expr, ANY)
         } else {
@@ -298,7 +299,7 @@ impl<'a> Visit<'a> {
         }
     }
 
-    fn import(&mut self, scope: ScopeNo, specifiers: Part<'a>) -> Result<(), AllocError> {
+    fn import(&mut self, scope: ScopeNo, specifiers: Part<'a>) {
         for specifier in specifiers.parts() {
             let specifier = specifier.read();
             let local = match specifier.kind() {
@@ -306,34 +307,33 @@ impl<'a> Visit<'a> {
                 Kind::ImportDefaultSpecifier => ImportDefaultSpecifier::of(specifier).local,
                 _ => ImportStarAsSpecifier::of(specifier).local,
             };
-            self.resolve(scope, local, ANY)?;
+            self.resolve(scope, local, ANY);
         }
-        Ok(())
     }
 
-    fn block(&mut self, scope: ScopeNo, block: Part<'a>) -> Result<(), AllocError> {
+    fn block(&mut self, scope: ScopeNo, block: Part<'a>) {
         let BlockStmt { span, stmts, .. } = BlockStmt::of(block);
-        let inner = self.scopes.open(Some(scope))?;
-        bind_statements(&mut self.scopes, inner, stmts)?;
-        self.open_blocks(self.alloc, inner, stmts)?;
-        self.opened(Numbered::Block, span, inner)?;
+        let inner = self.scopes.open(Some(scope));
+        bind_statements(&mut self.scopes, inner, stmts);
+        self.open_blocks(inner, stmts);
+        self.opened(Numbered::Block, span, inner);
         self.later(inner, stmts)
     }
 
     // The body of a function, in whose scope it stands.
-    fn body(&mut self, scope: ScopeNo, body: Part<'a>) -> Result<(), AllocError> {
+    fn body(&mut self, scope: ScopeNo, body: Part<'a>) {
         if body.kind() != Kind::BlockStmt {
             return self.later(scope, body);
         }
         let BlockStmt { span, stmts, .. } = BlockStmt::of(body);
-        bind_body(&mut self.scopes, scope, stmts)?;
-        self.open_blocks(self.alloc, scope, stmts)?;
-        self.opened(Numbered::Block, span, scope)?;
+        bind_body(&mut self.scopes, scope, stmts);
+        self.open_blocks(scope, stmts);
+        self.opened(Numbered::Block, span, scope);
         self.later(scope, stmts)
     }
 
     // A function in its scope.
-    fn function(&mut self, inner: ScopeNo, function: Part<'a>) -> Result<(), AllocError> {
+    fn function(&mut self, inner: ScopeNo, function: Part<'a>) {
         let Function {
             span,
             params,
@@ -343,20 +343,20 @@ impl<'a> Visit<'a> {
             return_type,
             ..
         } = Function::of(function);
-        bind_type_params(&mut self.scopes, inner, type_params)?;
-        bind_pattern(&mut self.scopes, inner, params)?;
-        self.opened(Numbered::Function, span, inner)?;
+        bind_type_params(&mut self.scopes, inner, type_params);
+        bind_pattern(&mut self.scopes, inner, params);
+        self.opened(Numbered::Function, span, inner);
         let outer = self.scopes.parent(inner);
-        self.later(inner, return_type)?;
-        self.later(inner, type_params)?;
-        self.later_body(inner, body)?;
-        self.later(outer, decorators)?;
+        self.later(inner, return_type);
+        self.later(inner, type_params);
+        self.later_body(inner, body);
+        self.later(outer, decorators);
         self.later(inner, params)
     }
 
     // What has a scope of its own, as a function has.
-    fn function_like(&mut self, scope: ScopeNo, part: Part<'a>) -> Result<(), AllocError> {
-        let inner = self.scopes.open(Some(scope))?;
+    fn function_like(&mut self, scope: ScopeNo, part: Part<'a>) {
+        let inner = self.scopes.open(Some(scope));
         match part.kind() {
             Kind::Function => self.function(inner, part),
             Kind::ArrowExpr => {
@@ -368,12 +368,12 @@ impl<'a> Visit<'a> {
                     return_type,
                     ..
                 } = ArrowExpr::of(part);
-                bind_type_params(&mut self.scopes, inner, type_params)?;
-                bind_pattern(&mut self.scopes, inner, params)?;
-                self.opened(Numbered::Arrow, span, inner)?;
-                self.later_body(inner, body)?;
-                self.later(inner, return_type)?;
-                self.later(inner, type_params)?;
+                bind_type_params(&mut self.scopes, inner, type_params);
+                bind_pattern(&mut self.scopes, inner, params);
+                self.opened(Numbered::Arrow, span, inner);
+                self.later_body(inner, body);
+                self.later(inner, return_type);
+                self.later(inner, type_params);
                 self.later(inner, params)
             }
             Kind::Constructor => {
@@ -383,9 +383,9 @@ impl<'a> Visit<'a> {
                     body,
                     ..
                 } = Constructor::of(part);
-                bind_pattern(&mut self.scopes, inner, params)?;
-                self.opened(Numbered::Constructor, span, inner)?;
-                self.later_body(inner, body)?;
+                bind_pattern(&mut self.scopes, inner, params);
+                self.opened(Numbered::Constructor, span, inner);
+                self.later_body(inner, body);
                 self.later(inner, params)
             }
             Kind::StaticBlock => self.later_body(inner, StaticBlock::of(part).body),
@@ -396,8 +396,8 @@ impl<'a> Visit<'a> {
                     body,
                     ..
                 } = GetterProp::of(part);
-                self.later_body(inner, body)?;
-                self.later(inner, type_ann)?;
+                self.later_body(inner, body);
+                self.later(inner, type_ann);
                 self.later(scope, key)
             }
             _ => {
@@ -407,45 +407,45 @@ impl<'a> Visit<'a> {
                     body,
                     ..
                 } = SetterProp::of(part);
-                self.later(scope, key)?;
-                bind_pattern(&mut self.scopes, inner, param)?;
-                self.later_body(inner, body)?;
+                self.later(scope, key);
+                bind_pattern(&mut self.scopes, inner, param);
+                self.later_body(inner, body);
                 self.later(inner, param)
             }
         }
     }
 
     // A class in its scope.
-    fn class(&mut self, inner: ScopeNo, class: Part<'a>) -> Result<(), AllocError> {
+    fn class(&mut self, inner: ScopeNo, class: Part<'a>) {
         let Class {
             span,
             type_params,
             ..
         } = Class::of(class);
-        bind_type_params(&mut self.scopes, inner, type_params)?;
-        self.opened(Numbered::Class, span, inner)?;
+        bind_type_params(&mut self.scopes, inner, type_params);
+        self.opened(Numbered::Class, span, inner);
         self.each(inner, class)
     }
 
     // A declaration behind `export default`, whose name stands in the scope around it.
-    fn default_decl(&mut self, scope: ScopeNo, decl: Part<'a>) -> Result<(), AllocError> {
+    fn default_decl(&mut self, scope: ScopeNo, decl: Part<'a>) {
         match decl.kind() {
             Kind::FnExpr => {
                 let FnExpr { ident, function } = FnExpr::of(decl);
-                self.resolve(scope, ident, VALUE)?;
+                self.resolve(scope, ident, VALUE);
                 self.later(scope, function)
             }
             Kind::ClassExpr => {
                 let ClassExpr { ident, class } = ClassExpr::of(decl);
-                self.resolve(scope, ident, VALUE)?;
-                let inner = self.scopes.open(Some(scope))?;
+                self.resolve(scope, ident, VALUE);
+                let inner = self.scopes.open(Some(scope));
                 self.class(inner, class)
             }
             _ => self.later(scope, decl),
         }
     }
 
-    fn declaration(&mut self, scope: ScopeNo, decl: Part<'a>) -> Result<(), AllocError> {
+    fn declaration(&mut self, scope: ScopeNo, decl: Part<'a>) {
         match decl.kind() {
             Kind::FnDecl => {
                 let FnDecl {
@@ -453,32 +453,32 @@ impl<'a> Visit<'a> {
                     function,
                     ..
                 } = FnDecl::of(decl);
-                self.resolve(scope, ident, VALUE)?;
+                self.resolve(scope, ident, VALUE);
                 self.later(scope, function)
             }
             Kind::ClassDecl => {
                 let ClassDecl { ident, class, .. } = ClassDecl::of(decl);
-                self.resolve(scope, ident, VALUE)?;
-                let inner = self.scopes.open(Some(scope))?;
+                self.resolve(scope, ident, VALUE);
+                let inner = self.scopes.open(Some(scope));
                 self.class(inner, class)
             }
             Kind::FnExpr => {
                 let FnExpr { ident, function } = FnExpr::of(decl);
-                let inner = self.scopes.open(Some(scope))?;
+                let inner = self.scopes.open(Some(scope));
                 if ident.kind() == Kind::Ident {
-                    self.scopes.bind(inner, Ident::of(ident).sym, VALUE)?;
+                    self.scopes.bind(inner, Ident::of(ident).sym, VALUE);
                 }
-                self.resolve(inner, ident, VALUE)?;
+                self.resolve(inner, ident, VALUE);
                 self.function(inner, function)
             }
             Kind::ClassExpr => {
                 let ClassExpr { ident, class } = ClassExpr::of(decl);
-                let inner = self.scopes.open(Some(scope))?;
+                let inner = self.scopes.open(Some(scope));
                 if ident.kind() == Kind::Ident {
                     self.scopes
-                        .bind(inner, Ident::of(ident).sym, VALUE.with(TYPE))?;
+                        .bind(inner, Ident::of(ident).sym, VALUE.with(TYPE));
                 }
-                self.resolve(inner, ident, VALUE)?;
+                self.resolve(inner, ident, VALUE);
                 self.class(inner, class)
             }
             Kind::TsInterfaceDecl => {
@@ -489,11 +489,11 @@ impl<'a> Visit<'a> {
                     body,
                     ..
                 } = TsInterfaceDecl::of(decl);
-                let inner = self.scopes.open(Some(scope))?;
-                bind_type_params(&mut self.scopes, inner, type_params)?;
-                self.resolve(scope, id, TYPE)?;
-                self.later(inner, body)?;
-                self.later(inner, extends)?;
+                let inner = self.scopes.open(Some(scope));
+                bind_type_params(&mut self.scopes, inner, type_params);
+                self.resolve(scope, id, TYPE);
+                self.later(inner, body);
+                self.later(inner, extends);
                 self.later(inner, type_params)
             }
             Kind::TsTypeAliasDecl => {
@@ -503,10 +503,10 @@ impl<'a> Visit<'a> {
                     type_ann,
                     ..
                 } = TsTypeAliasDecl::of(decl);
-                let inner = self.scopes.open(Some(scope))?;
-                bind_type_params(&mut self.scopes, inner, type_params)?;
-                self.resolve(scope, id, TYPE)?;
-                self.later(inner, type_ann)?;
+                let inner = self.scopes.open(Some(scope));
+                bind_type_params(&mut self.scopes, inner, type_params);
+                self.resolve(scope, id, TYPE);
+                self.later(inner, type_ann);
                 self.later(inner, type_params)
             }
             Kind::TsEnumDecl => self.enumeration(scope, decl),
@@ -514,25 +514,25 @@ impl<'a> Visit<'a> {
         }
     }
 
-    fn enumeration(&mut self, scope: ScopeNo, decl: Part<'a>) -> Result<(), AllocError> {
+    fn enumeration(&mut self, scope: ScopeNo, decl: Part<'a>) {
         let TsEnumDecl {
             span,
             id,
             members,
             ..
         } = TsEnumDecl::of(decl);
-        self.resolve(scope, id, TYPE)?;
-        let inner = self.block_scope(scope, span)?;
+        self.resolve(scope, id, TYPE);
+        let inner = self.block_scope(scope, span);
         for member in members.parts() {
             let name = TsEnumMember::of(member.read()).id;
             if name.kind() == Kind::Ident {
-                self.scopes.bind(inner, Ident::of(name).sym, VALUE)?;
+                self.scopes.bind(inner, Ident::of(name).sym, VALUE);
             }
         }
         self.later(inner, members)
     }
 
-    fn namespace(&mut self, scope: ScopeNo, decl: Part<'a>) -> Result<(), AllocError> {
+    fn namespace(&mut self, scope: ScopeNo, decl: Part<'a>) {
         let TsModuleDecl {
             span,
             declare,
@@ -542,21 +542,20 @@ impl<'a> Visit<'a> {
             ..
         } = TsModuleDecl::of(decl);
         if !global {
-            self.resolve(scope, id, NAMESPACE)?;
+            self.resolve(scope, id, NAMESPACE);
         }
         if body.is_absent() {
-            return Ok(());
+            return;
         }
-        let inner = self.block_scope(scope, span)?;
+        let inner = self.block_scope(scope, span);
         let outer = self.ambient;
         self.ambient = outer || declare;
-        self.namespace_body(inner, body)?;
+        self.namespace_body(inner, body);
         self.ambient = outer;
-        Ok(())
     }
 
     // The names of `a.b.c` but for the first, and the block behind them.
-    fn namespace_body(&mut self, scope: ScopeNo, body: Part<'a>) -> Result<(), AllocError> {
+    fn namespace_body(&mut self, scope: ScopeNo, body: Part<'a>) {
         let mut inner = scope;
         let mut at = body;
         for _turn in 0..u64::MAX {
@@ -566,53 +565,48 @@ impl<'a> Visit<'a> {
             let TsNamespaceDecl { id, body, .. } = TsNamespaceDecl::of(at);
             if id.kind() == Kind::Ident {
                 self.scopes
-                    .bind(inner, Ident::of(id).sym, VALUE.with(NAMESPACE))?;
+                    .bind(inner, Ident::of(id).sym, VALUE.with(NAMESPACE));
             }
-            self.resolve(inner, id, NAMESPACE)?;
-            inner = self.scopes.open(Some(inner))?;
+            self.resolve(inner, id, NAMESPACE);
+            inner = self.scopes.open(Some(inner));
             at = body;
         }
         let items = TsModuleBlock::of(at).body;
-        bind_body(&mut self.scopes, inner, items)?;
-        self.open_blocks(self.alloc, inner, items)?;
+        bind_body(&mut self.scopes, inner, items);
+        self.open_blocks(inner, items);
         self.later(inner, items)
     }
 
-    fn statement(&mut self, scope: ScopeNo, stmt: Part<'a>) -> Result<(), AllocError> {
+    fn statement(&mut self, scope: ScopeNo, stmt: Part<'a>) {
         if stmt.kind() == Kind::SwitchStmt {
             let SwitchStmt {
                 discriminant,
                 cases,
                 ..
             } = SwitchStmt::of(stmt);
-            self.later(scope, discriminant)?;
-            let inner = self.scopes.open(Some(scope))?;
+            self.later(scope, discriminant);
+            let inner = self.scopes.open(Some(scope));
             for case in cases.parts() {
-                bind_statements(&mut self.scopes, inner, SwitchCase::of(case.read()).cons)?;
+                bind_statements(&mut self.scopes, inner, SwitchCase::of(case.read()).cons);
             }
             return self.later(inner, cases);
         }
-        let inner = self.scopes.open(Some(scope))?;
+        let inner = self.scopes.open(Some(scope));
         match stmt.kind() {
-            Kind::ForStmt => bind_variables(
-                &mut self.scopes,
-                inner,
-                ForStmt::of(stmt).init,
-                false,
-            )?,
+            Kind::ForStmt => bind_variables(&mut self.scopes, inner, ForStmt::of(stmt).init, false),
             Kind::ForInStmt => bind_variables(
                 &mut self.scopes,
                 inner,
                 ForInStmt::of(stmt).left,
                 false,
-            )?,
+            ),
             Kind::ForOfStmt => bind_variables(
                 &mut self.scopes,
                 inner,
                 ForOfStmt::of(stmt).left,
                 false,
-            )?,
-            _ => bind_pattern(&mut self.scopes, inner, CatchClause::of(stmt).param)?,
+            ),
+            _ => bind_pattern(&mut self.scopes, inner, CatchClause::of(stmt).param),
         }
         self.each(inner, stmt)
     }
@@ -627,13 +621,16 @@ pub fn with_scopes(alloc: Global, tree: &Tree, ambient: bool) -> Result<Tree, Al
         alloc,
         ambient,
         blocks: BTreeMap::new(alloc),
-        waiting: Vec::new(alloc),
+        waiting: Waiting::new(alloc),
     };
-    let top = visit.scopes.open(None)?;
+    let top = visit.scopes.open(None);
     let body = Module::of(tree.read()).body;
-    bind_body(&mut visit.scopes, top, body)?;
-    visit.open_blocks(alloc, top, body)?;
-    visit.later(top, body)?;
-    visit.visit_all()?;
+    bind_body(&mut visit.scopes, top, body);
+    visit.open_blocks(top, body);
+    visit.later(top, body);
+    visit.visit_all();
+    if visit.scopes.lacks || visit.numbers.lacks || visit.waiting.lacks {
+        return Err(AllocError);
+    }
     with_numbers(alloc, tree, &visit.numbers, 0)
 }

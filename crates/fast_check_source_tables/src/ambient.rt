@@ -1,6 +1,7 @@
 //! Declarations of a declaration file, or of an ambient namespace, are exported without a word where no list of exports stands beside them. Since a list
 //! goes from a skeleton, the word is written in here.
 use crate::items::{declaration_of, is_declaration, says_exports};
+use fast_check_source_heights::Waiting;
 use fast_check_tree_forms_classes::{Class, Function};
 use fast_check_tree_forms_programs::{ExportDecl, Module};
 use fast_check_tree_forms_statements::{
@@ -45,29 +46,32 @@ struct Task<'a> {
 #[derive(Drop)]
 struct Implied<'a> {
     starts: BTreeSet<u32>,
-    waiting: Vec<Task<'a>>,
+    waiting: Waiting<Task<'a>>,
 }
 
 impl<'a> Implied<'a> {
     // The items of a body. Each declaration gets the word if `all` have it.
-    fn items(&mut self, task: Task<'a>, all: bool) -> Result<(), AllocError> {
+    fn items(&mut self, task: Task<'a>, all: bool) {
         for item in task.body.parts() {
             let (inner, exported) = declaration_of(item.read());
-            if exported.is_none() && all && is_plain(inner) {
-                let _ = self.starts.insert(span_of(inner).start.0)?;
+            if exported.is_none()
+                && all
+                && is_plain(inner)
+                && self.starts.insert(span_of(inner).start.0).is_err()
+            {
+                self.waiting.lacks = true;
             }
             if inner.kind() == Kind::TsModuleDecl && is_named(inner) {
                 let TsModuleDecl { declare, body, .. } = TsModuleDecl::of(inner);
                 self.waiting.push(Task {
                     body,
                     is_ambient: task.is_ambient || declare,
-                })?;
+                });
             }
         }
-        Ok(())
     }
 
-    fn run(&mut self) -> Result<(), AllocError> {
+    fn run(&mut self) {
         for _turn in 0..u64::MAX {
             let Some(task) = self.waiting.pop() else {
                 break;
@@ -75,7 +79,7 @@ impl<'a> Implied<'a> {
             match task.body.kind() {
                 Kind::TsNamespaceDecl => {
                     let body = TsNamespaceDecl::of(task.body).body;
-                    self.waiting.push(Task { body, ..task })?;
+                    self.waiting.push(Task { body, ..task });
                 }
                 Kind::TsModuleBlock => {
                     let body = TsModuleBlock::of(task.body).body;
@@ -84,12 +88,11 @@ impl<'a> Implied<'a> {
                         .iter()
                         .any(|it| it.read().kind() == Kind::ExportDecl);
                     let all = task.is_ambient && !says_exports(body) && has_one;
-                    self.items(Task { body, ..task }, all)?;
+                    self.items(Task { body, ..task }, all);
                 }
                 _ => {}
             }
         }
-        Ok(())
     }
 }
 
@@ -150,13 +153,16 @@ pub fn with_exports(
     let body = Module::of(part).body;
     let mut implied = Implied {
         starts: BTreeSet::new(alloc),
-        waiting: Vec::new(alloc),
+        waiting: Waiting::new(alloc),
     };
     let task = Task {
         body,
         is_ambient: is_declaration_file,
     };
-    implied.items(task, is_declaration_file && !says_exports(body))?;
-    implied.run()?;
+    implied.items(task, is_declaration_file && !says_exports(body));
+    implied.run();
+    if implied.waiting.lacks {
+        return Err(AllocError);
+    }
     with_words(alloc, program, &implied.starts)
 }

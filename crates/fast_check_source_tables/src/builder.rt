@@ -2,8 +2,9 @@
 ghost use Rattle.std.specs.Prelude.{◌≡◌, ◌+◌, IfOk, OnOk, vec_len};
 
 use fast_check_source_references::dependencies::Dependencies;
+use fast_check_source_references::names::id_of;
 use fast_check_tables_symbols::{FileDepName, ReExportAllNode};
-use fast_check_tree_syntax::{Atom, Id, SourceRange};
+use fast_check_tree_syntax::{Atom, Id, Part, SourceRange};
 use std::alloc::{AllocError, Global};
 use std::collections::BTreeMap;
 
@@ -85,10 +86,11 @@ pub struct Draft {
     pub declarations: Vec<Declaration>,
 }
 
-/// The tables of a module while they are gathered.
+/// The tables of a module while they are gathered. Where memory runs out something is left out, and they say so.
 #[derive(Drop)]
 pub struct Tables {
     pub alloc: Global,
+    pub lacks: bool,
     pub drafts: Vec<Draft>,
     pub by_name: BTreeMap<Id, SymbolNo>,
     /// The names that were bound, in order.
@@ -119,6 +121,24 @@ fn new_draft(
     }
 }
 
+impl Draft {
+    // Exports a symbol by a name.
+    fn export(&mut self, name: &Atom, symbol: SymbolNo) -> Result<(), AllocError> {
+        match self.places.get(name).copied() {
+            Some(place) => {
+                if let Some(entry) = self.exports.get_mut(place) {
+                    entry.1 = symbol;
+                }
+            }
+            None => {
+                let _ = self.places.insert(name.clone()?, self.exports.len())?;
+                self.exports.push((name.clone()?, symbol))?;
+            }
+        }
+        Ok(())
+    }
+}
+
 fn copied(alloc: Global, text: &str) -> Result<String, AllocError> {
     String::from_str(alloc, text)
 }
@@ -130,6 +150,7 @@ impl Tables {
         drafts.push(new_draft(alloc, None, None, None))?;
         Ok(Tables {
             alloc,
+            lacks: false,
             drafts,
             by_name: BTreeMap::new(alloc),
             names: Vec::new(alloc),
@@ -172,36 +193,77 @@ impl Tables {
         Ok(no)
     }
 
-    /// A new symbol of a name, qualified by its parent's.
-    pub fn push_named(&mut self, parent: SymbolNo, name: &str) -> Result<SymbolNo, AllocError> {
+    // A new symbol of a name, qualified by its parent's.
+    fn new_named(&mut self, parent: SymbolNo, name: &str) -> Result<SymbolNo, AllocError> {
         let qualified = self.qualified(parent, name)?;
         let name = copied(self.alloc, name)?;
         self.push(parent, Some(name), Some(qualified))
+    }
+
+    /// A symbol that was made, or that of the module where memory ran out.
+    pub fn made(&mut self, symbol: Result<SymbolNo, AllocError>) -> SymbolNo {
+        match symbol {
+            Ok(symbol) => symbol,
+            Err(_) => {
+                self.lacks = true;
+                MODULE
+            }
+        }
+    }
+
+    /// Notes whether memory ran out.
+    pub fn note(&mut self, done: Result<(), AllocError>) {
+        if done.is_err() {
+            self.lacks = true;
+        }
+    }
+
+    /// A name with its scope, if it is one.
+    pub fn id(&mut self, part: Part<'_>) -> Option<Id> {
+        match id_of(self.alloc, part) {
+            Ok(found) => found,
+            Err(_) => {
+                self.lacks = true;
+                None
+            }
+        }
+    }
+
+    /// A new symbol of a name, qualified by its parent's.
+    pub fn push_named(&mut self, parent: SymbolNo, name: &str) -> SymbolNo {
+        let symbol = self.new_named(parent, name);
+        self.made(symbol)
     }
 
     pub fn find(&self, id: &Id) -> Option<SymbolNo> {
         self.by_name.get(id).copied()
     }
 
-    pub fn bind(&mut self, id: Id, symbol: SymbolNo) -> Result<(), AllocError> {
-        if self.by_name.get(&id).is_none() {
+    fn bind_name(&mut self, id: &Id, symbol: SymbolNo) -> Result<(), AllocError> {
+        if self.by_name.get(id).is_none() {
             self.names.push(id.clone()?)?;
         }
-        let _ = self.by_name.insert(id, symbol)?;
+        let _ = self.by_name.insert(id.clone()?, symbol)?;
         Ok(())
     }
 
-    /// The symbol of a name, which is made at its first declaration.
-    pub fn symbol_of(&mut self, id: Id, parent: SymbolNo) -> Result<SymbolNo, AllocError> {
-        if let Some(found) = self.find(&id) {
-            return Ok(found);
-        }
-        let symbol = self.push_named(parent, id.0.as_str())?;
+    // A new symbol for a name.
+    fn symbol_for(&mut self, id: &Id, parent: SymbolNo) -> Result<SymbolNo, AllocError> {
+        let symbol = self.new_named(parent, id.0.as_str())?;
         if let Some(draft) = self.drafts.get_mut(symbol.0) {
             draft.ident = Some(id.clone()?);
         }
-        self.bind(id, symbol)?;
+        self.bind_name(id, symbol)?;
         Ok(symbol)
+    }
+
+    /// The symbol of a name, which is made at its first declaration.
+    pub fn symbol_of(&mut self, id: &Id, parent: SymbolNo) -> SymbolNo {
+        if let Some(found) = self.find(id) {
+            return found;
+        }
+        let symbol = self.symbol_for(id, parent);
+        self.made(symbol)
     }
 
     pub fn export_of(&self, symbol: SymbolNo, name: &Atom) -> Option<SymbolNo> {
@@ -212,61 +274,42 @@ impl Tables {
     }
 
     /// Exports a symbol by a name: a new name goes last, and one that is there keeps its place.
-    pub fn export(
-        &mut self,
-        from: SymbolNo,
-        name: Atom,
-        symbol: SymbolNo,
-    ) -> Result<(), AllocError> {
-        let Some(draft) = self.drafts.get_mut(from.0) else {
-            return Ok(());
-        };
-        let place = draft.places.get(&name).copied();
-        match place {
-            Some(place) => {
-                if let Some(entry) = draft.exports.get_mut(place) {
-                    entry.1 = symbol;
-                }
-            }
-            None => {
-                let _ = draft.places.insert(name.clone()?, draft.exports.len())?;
-                draft.exports.push((name, symbol))?;
-            }
+    pub fn export(&mut self, from: SymbolNo, name: &Atom, symbol: SymbolNo) {
+        if let Some(draft) = self.drafts.get_mut(from.0)
+            && draft.export(name, symbol).is_err()
+        {
+            self.lacks = true;
         }
-        Ok(())
     }
 
     /// A name that a namespace exports has the symbol by which another block of it exports that name.
-    pub fn join(&mut self, id: Id, namespace: SymbolNo) -> Result<(), AllocError> {
-        match self.export_of(namespace, &id.0) {
-            Some(before) => self.bind(id, before),
-            None => Ok(()),
+    pub fn join(&mut self, id: &Id, namespace: SymbolNo) {
+        if let Some(before) = self.export_of(namespace, &id.0) {
+            let done = self.bind_name(id, before);
+            self.note(done);
         }
     }
 
     /// The symbol of what is exported as default without a name.
-    pub fn unnamed_default(&mut self, parent: SymbolNo) -> Result<SymbolNo, AllocError> {
+    pub fn unnamed_default(&mut self, parent: SymbolNo) -> SymbolNo {
         if let Some(draft) = self.drafts.get(parent.0)
             && let Some(found) = draft.unnamed
         {
-            return Ok(found);
+            return found;
         }
-        let made = self.push_named(parent, "default")?;
+        let made = self.push_named(parent, "default");
         if let Some(draft) = self.drafts.get_mut(parent.0) {
             draft.unnamed = Some(made);
         }
-        Ok(made)
+        made
     }
 
-    pub fn declare(
-        &mut self,
-        symbol: SymbolNo,
-        declaration: Declaration,
-    ) -> Result<(), AllocError> {
-        if let Some(draft) = self.drafts.get_mut(symbol.0) {
-            draft.declarations.push(declaration)?;
+    pub fn declare(&mut self, symbol: SymbolNo, declaration: Declaration) {
+        if let Some(draft) = self.drafts.get_mut(symbol.0)
+            && draft.declarations.push(declaration).is_err()
+        {
+            self.lacks = true;
         }
-        Ok(())
     }
 
     /// A declaration with its own text.
@@ -277,7 +320,8 @@ impl Tables {
         binds: Binds,
         flags: Flags,
         dependencies: Dependencies,
-    ) -> Result<(), AllocError> {
+    ) {
+        self.lacks |= dependencies.lacks;
         self.declare(
             symbol,
             Declaration {
@@ -286,16 +330,11 @@ impl Tables {
                 body: None,
                 target: Target::Definition(flags, dependencies),
             },
-        )
+        );
     }
 
     /// A declaration that stands for something else.
-    pub fn alias(
-        &mut self,
-        symbol: SymbolNo,
-        range: SourceRange,
-        target: Target,
-    ) -> Result<(), AllocError> {
+    pub fn alias(&mut self, symbol: SymbolNo, range: SourceRange, target: Target) {
         self.declare(
             symbol,
             Declaration {
@@ -304,7 +343,7 @@ impl Tables {
                 body: None,
                 target,
             },
-        )
+        );
     }
 
     // The name of a symbol, and where its last declaration stands, if it was made for a name.
@@ -318,21 +357,30 @@ impl Tables {
         }
     }
 
-    /// Exports a symbol as default. Beside another one, as a function beside an interface, both stand behind one symbol.
-    pub fn export_default(&mut self, parent: SymbolNo, symbol: SymbolNo) -> Result<(), AllocError> {
+    fn add_default(&mut self, parent: SymbolNo, symbol: SymbolNo) -> Result<(), AllocError> {
         let default = Atom::from_str(self.alloc, "default")?;
         let before = match self.export_of(parent, &default) {
             Some(before) if before != symbol => before,
-            _ => return self.export(parent, default, symbol),
+            _ => {
+                self.export(parent, &default, symbol);
+                return Ok(());
+            }
         };
-        let both = self.unnamed_default(parent)?;
+        let both = self.unnamed_default(parent);
         for each in [before, symbol] {
             if each != both
                 && let Some((id, range)) = self.named(each)?
             {
-                self.alias(both, range, Target::Name(id))?;
+                self.alias(both, range, Target::Name(id));
             }
         }
-        self.export(parent, default, both)
+        self.export(parent, &default, both);
+        Ok(())
+    }
+
+    /// Exports a symbol as default. Beside another one, as a function beside an interface, both stand behind one symbol.
+    pub fn export_default(&mut self, parent: SymbolNo, symbol: SymbolNo) {
+        let done = self.add_default(parent, symbol);
+        self.note(done);
     }
 }

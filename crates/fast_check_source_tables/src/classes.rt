@@ -237,45 +237,71 @@ impl Tables {
         String::from_str(self.alloc, text)
     }
 
-    // The symbol of a member: declarations of one name share it.
+    // A new symbol of a member, which has none by its name yet.
+    fn new_member(
+        &mut self,
+        owner: SymbolNo,
+        name: &Atom,
+        is_static: bool,
+        before: &str,
+    ) -> Result<SymbolNo, AllocError> {
+        let mut qualified = self.owner_name(owner)?;
+        qualified.push_str(before)?;
+        qualified.push_str(name.as_str())?;
+        let own = String::from_str(self.alloc, name.as_str())?;
+        let made = self.push(owner, Some(own), Some(qualified))?;
+        if is_static {
+            self.export(owner, name, made);
+        } else if let Some(draft) = self.drafts.get_mut(owner.0) {
+            draft.members.push(made)?;
+            let _ = draft.member_names.insert(name.clone()?, made)?;
+        }
+        Ok(made)
+    }
+
+    // The symbol of a member of a name: declarations of one name share it.
+    fn named_member(
+        &mut self,
+        owner: SymbolNo,
+        name: &str,
+        is_static: bool,
+        before: &str,
+    ) -> Result<SymbolNo, AllocError> {
+        let name = Atom::from_str(self.alloc, name)?;
+        let known = if is_static {
+            self.export_of(owner, &name)
+        } else {
+            match self.drafts.get(owner.0) {
+                Some(draft) => draft.member_names.get(&name).copied(),
+                None => None,
+            }
+        };
+        match known {
+            Some(known) => Ok(known),
+            None => self.new_member(owner, &name, is_static, before),
+        }
+    }
+
+    fn unnamed_member(&mut self, owner: SymbolNo) -> Result<SymbolNo, AllocError> {
+        let made = self.push(owner, None, None)?;
+        if let Some(draft) = self.drafts.get_mut(owner.0) {
+            draft.members.push(made)?;
+        }
+        Ok(made)
+    }
+
     fn member_symbol(
         &mut self,
         owner: SymbolNo,
         name: Option<&str>,
         is_static: bool,
         before: &str,
-    ) -> Result<SymbolNo, AllocError> {
-        let Some(name) = name else {
-            let made = self.push(owner, None, None)?;
-            if let Some(draft) = self.drafts.get_mut(owner.0) {
-                draft.members.push(made)?;
-            }
-            return Ok(made);
+    ) -> SymbolNo {
+        let symbol = match name {
+            Some(name) => self.named_member(owner, name, is_static, before),
+            None => self.unnamed_member(owner),
         };
-        let atom = Atom::from_str(self.alloc, name)?;
-        let known = if is_static {
-            self.export_of(owner, &atom)
-        } else {
-            match self.drafts.get(owner.0) {
-                Some(draft) => draft.member_names.get(&atom).copied(),
-                None => None,
-            }
-        };
-        if let Some(known) = known {
-            return Ok(known);
-        }
-        let mut qualified = self.owner_name(owner)?;
-        qualified.push_str(before)?;
-        qualified.push_str(name)?;
-        let own = String::from_str(self.alloc, name)?;
-        let made = self.push(owner, Some(own), Some(qualified))?;
-        if is_static {
-            self.export(owner, atom, made)?;
-        } else if let Some(draft) = self.drafts.get_mut(owner.0) {
-            draft.members.push(made)?;
-            let _ = draft.member_names.insert(atom, made)?;
-        }
-        Ok(made)
+        self.made(symbol)
     }
 
     fn mark_private(&mut self, symbol: SymbolNo) {
@@ -284,22 +310,18 @@ impl Tables {
         }
     }
 
-    fn class_member(
-        &mut self,
-        owner: SymbolNo,
-        part: Part<'_>,
-        found: Member<'_>,
-    ) -> Result<SymbolNo, AllocError> {
+    fn class_member(&mut self, owner: SymbolNo, part: Part<'_>, found: Member<'_>) {
         let before = if found.is_static { "." } else { ".prototype." };
-        let symbol = self.member_symbol(owner, member_key(found.key), found.is_static, before)?;
+        let symbol = self.member_symbol(owner, member_key(found.key), found.is_static, before);
         if found.is_private {
             self.mark_private(symbol);
         }
         let mut dependencies = self.dependencies();
         if let Some(expr) = computed_of(found.key) {
-            dependencies.value(expr)?;
+            dependencies.value(expr);
         }
-        dependencies.class_member(part)?;
+        dependencies.class_member(part);
+        self.lacks |= dependencies.lacks;
         self.declare(
             symbol,
             Declaration {
@@ -308,11 +330,10 @@ impl Tables {
                 body: found.body,
                 target: Target::Definition(MEMBER_FLAGS, dependencies),
             },
-        )?;
-        Ok(symbol)
+        );
     }
 
-    fn param_property(&mut self, owner: SymbolNo, part: Part<'_>) -> Result<(), AllocError> {
+    fn param_property(&mut self, owner: SymbolNo, part: Part<'_>) {
         let TsParamProp {
             span,
             accessibility,
@@ -325,16 +346,16 @@ impl Tables {
             param
         };
         if pattern.kind() != Kind::BindingIdent {
-            return Ok(());
+            return;
         }
         let name = text_of(BindingIdent::of(pattern).id);
-        let symbol = self.member_symbol(owner, Some(name), false, ".prototype.")?;
+        let symbol = self.member_symbol(owner, Some(name), false, ".prototype.");
         if is_private(accessibility) {
             self.mark_private(symbol);
         }
         let mut dependencies = self.dependencies();
-        dependencies.parameter(param)?;
-        self.define(symbol, span, Binds::Both, MEMBER_FLAGS, dependencies)
+        dependencies.parameter(param);
+        self.define(symbol, span, Binds::Both, MEMBER_FLAGS, dependencies);
     }
 
     /// The members of a class, and the parameter properties of its constructors. A private member of an ambient class stands as it is written,
@@ -345,35 +366,30 @@ impl Tables {
         class: Part<'_>,
         is_ambient: bool,
         shared: &mut Dependencies,
-    ) -> Result<(), AllocError> {
+    ) {
         for member in Class::of(class).body.parts() {
             let member = member.read();
             if let Some(found) = member_of(member) {
-                let _ = self.class_member(owner, member, found)?;
+                self.class_member(owner, member, found);
                 if found.is_private && is_ambient {
                     if let Some(expr) = computed_of(found.key) {
-                        shared.value(expr)?;
+                        shared.value(expr);
                     }
-                    shared.class_member(member)?;
+                    shared.class_member(member);
                 }
             }
             if member.kind() == Kind::Constructor {
                 for param in Constructor::of(member).params.parts() {
                     if param.read().kind() == Kind::TsParamProp {
-                        self.param_property(owner, param.read())?;
+                        self.param_property(owner, param.read());
                     }
                 }
             }
         }
-        Ok(())
     }
 
     /// The members of an interface.
-    pub fn interface_members(
-        &mut self,
-        owner: SymbolNo,
-        interface: Part<'_>,
-    ) -> Result<(), AllocError> {
+    pub fn interface_members(&mut self, owner: SymbolNo, interface: Part<'_>) {
         let body = TsInterfaceDecl::of(interface).body;
         for member in TsInterfaceBody::of(body).body.parts() {
             let member = member.read();
@@ -382,14 +398,13 @@ impl Tables {
                 name,
                 computed,
             } = signature_of(member);
-            let symbol = self.member_symbol(owner, name, false, ".")?;
+            let symbol = self.member_symbol(owner, name, false, ".");
             let mut dependencies = self.dependencies();
             if let Some(key) = computed {
-                dependencies.value(key)?;
+                dependencies.value(key);
             }
-            dependencies.signature_member(member)?;
-            self.define(symbol, span, Binds::Both, MEMBER_FLAGS, dependencies)?;
+            dependencies.signature_member(member);
+            self.define(symbol, span, Binds::Both, MEMBER_FLAGS, dependencies);
         }
-        Ok(())
     }
 }

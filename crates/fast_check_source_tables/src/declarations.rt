@@ -1,6 +1,7 @@
 //! Declarations.
 use crate::builder::{Binds, Declaration, Flags, PLAIN, SymbolNo, Tables, Target};
 use crate::items::{Task, Way};
+use fast_check_source_heights::Waiting;
 use fast_check_source_references::functions::type_of_pattern;
 use fast_check_source_references::names::{id_of, text_of};
 use fast_check_tree_forms_classes::{Class, Function};
@@ -16,7 +17,7 @@ use fast_check_tree_syntax::{Atom, Id, Kind, Part, SourceRange, Word};
 use std::alloc::{AllocError, Global};
 
 // Pushes the patterns within one, the first one last.
-fn push_inner<'a>(pattern: Part<'a>, waiting: &mut Vec<Part<'a>>) -> Result<(), AllocError> {
+fn push_inner<'a>(pattern: Part<'a>, waiting: &mut Waiting<Part<'a>>) {
     let inner = match pattern.kind() {
         Kind::RestPat => RestPat::of(pattern).arg,
         Kind::AssignPat => AssignPat::of(pattern).left,
@@ -24,23 +25,21 @@ fn push_inner<'a>(pattern: Part<'a>, waiting: &mut Vec<Part<'a>>) -> Result<(), 
         Kind::AssignPatProp => AssignPatProp::of(pattern).key,
         Kind::ArrayPat => return push_reversed(ArrayPat::of(pattern).elems, waiting),
         Kind::ObjectPat => return push_reversed(ObjectPat::of(pattern).props, waiting),
-        _ => return Ok(()),
+        _ => return,
     };
-    waiting.push(inner)?;
-    Ok(())
+    waiting.push(inner);
 }
 
-fn push_reversed<'a>(list: Part<'a>, waiting: &mut Vec<Part<'a>>) -> Result<(), AllocError> {
+fn push_reversed<'a>(list: Part<'a>, waiting: &mut Waiting<Part<'a>>) {
     for part in list.parts().iter().rev() {
-        waiting.push(part.read())?;
+        waiting.push(part.read());
     }
-    Ok(())
 }
 
 /// Pushes the names that a pattern binds.
 pub fn push_bound(alloc: Global, pattern: Part<'_>, out: &mut Vec<Id>) -> Result<(), AllocError> {
-    let mut waiting = Vec::new(alloc);
-    waiting.push(pattern)?;
+    let mut waiting = Waiting::new(alloc);
+    waiting.push(pattern);
     for _turn in 0..u64::MAX {
         let Some(next) = waiting.pop() else {
             break;
@@ -50,10 +49,14 @@ pub fn push_bound(alloc: Global, pattern: Part<'_>, out: &mut Vec<Id>) -> Result
                 out.push(id)?;
             }
         } else {
-            push_inner(next, &mut waiting)?;
+            push_inner(next, &mut waiting);
         }
     }
-    Ok(())
+    if waiting.lacks {
+        Err(AllocError)
+    } else {
+        Ok(())
+    }
 }
 
 fn declarators(decl: Part<'_>) -> Option<Part<'_>> {
@@ -130,13 +133,9 @@ impl Setting {
 
 impl Tables {
     // The symbol of a name, or of what stands unnamed behind `export default`.
-    fn symbol_or_default(
-        &mut self,
-        ident: Part<'_>,
-        parent: SymbolNo,
-    ) -> Result<SymbolNo, AllocError> {
-        match id_of(self.alloc, ident)? {
-            Some(id) => self.symbol_of(id, parent),
+    fn symbol_or_default(&mut self, ident: Part<'_>, parent: SymbolNo) -> SymbolNo {
+        match self.id(ident) {
+            Some(id) => self.symbol_of(&id, parent),
             None => self.unnamed_default(parent),
         }
     }
@@ -145,6 +144,31 @@ impl Tables {
         if let Some(draft) = self.drafts.get_mut(symbol.0) {
             draft.is_function = true;
         }
+    }
+
+    // A variable of a list.
+    fn variable(
+        &mut self,
+        declarator: Part<'_>,
+        id: &Id,
+        is_const: bool,
+        setting: Setting,
+    ) -> SymbolNo {
+        let VarDeclarator {
+            span,
+            name,
+            init,
+            ..
+        } = VarDeclarator::of(declarator);
+        let type_ann = type_of_pattern(name);
+        let symbol = self.symbol_of(id, setting.parent);
+        let mut dependencies = self.dependencies();
+        dependencies.type_or_value(type_ann, init);
+        self.define(symbol, span, Binds::Value, setting.flags(), dependencies);
+        if type_ann.is_absent() && is_const && is_function_value(init) {
+            self.mark_function(symbol);
+        }
+        symbol
     }
 
     fn variables(
@@ -158,24 +182,10 @@ impl Tables {
             return Ok(());
         };
         for each in decls.parts() {
-            let VarDeclarator {
-                span,
-                name,
-                init,
-                ..
-            } = VarDeclarator::of(each.read());
-            let type_ann = type_of_pattern(name);
             let mut names = Vec::new(self.alloc);
-            push_bound(self.alloc, name, &mut names)?;
-            for id in names {
-                let symbol = self.symbol_of(id, setting.parent)?;
-                let mut dependencies = self.dependencies();
-                dependencies.type_or_value(type_ann, init)?;
-                self.define(symbol, span, Binds::Value, setting.flags(), dependencies)?;
-                if type_ann.is_absent() && is_const && is_function_value(init) {
-                    self.mark_function(symbol);
-                }
-                made.push(symbol)?;
+            push_bound(self.alloc, VarDeclarator::of(each.read()).name, &mut names)?;
+            for id in names.iter() {
+                made.push(self.variable(each.read(), id, is_const, setting))?;
             }
         }
         Ok(())
@@ -189,15 +199,16 @@ impl Tables {
         range: SourceRange,
         parent: SymbolNo,
         flags: Flags,
-    ) -> Result<SymbolNo, AllocError> {
-        let symbol = self.symbol_or_default(ident, parent)?;
+    ) -> SymbolNo {
+        let symbol = self.symbol_or_default(ident, parent);
         let mut dependencies = self.dependencies();
-        dependencies.function(function)?;
+        dependencies.function(function);
         let has_body = !Function::of(function).body.is_absent();
         let flags = Flags {
             is_function: true,
             ..flags
         };
+        self.lacks |= dependencies.lacks;
         self.declare(
             symbol,
             Declaration {
@@ -206,9 +217,9 @@ impl Tables {
                 body: Some(has_body),
                 target: Target::Definition(flags, dependencies),
             },
-        )?;
+        );
         self.mark_function(symbol);
-        Ok(symbol)
+        symbol
     }
 
     /// A class with its members.
@@ -219,8 +230,8 @@ impl Tables {
         range: SourceRange,
         setting: Setting,
         flags: Flags,
-    ) -> Result<SymbolNo, AllocError> {
-        let symbol = self.symbol_or_default(ident, setting.parent)?;
+    ) -> SymbolNo {
+        let symbol = self.symbol_or_default(ident, setting.parent);
         let Class {
             super_class,
             type_params,
@@ -229,10 +240,10 @@ impl Tables {
             ..
         } = Class::of(class);
         let mut dependencies = self.dependencies();
-        dependencies.written(type_params)?;
-        dependencies.value(super_class)?;
-        dependencies.written(super_type_params)?;
-        dependencies.heritage(implements)?;
+        dependencies.written(type_params);
+        dependencies.value(super_class);
+        dependencies.written(super_type_params);
+        dependencies.heritage(implements);
         let place = match self.drafts.get(symbol.0) {
             Some(draft) => draft.declarations.len(),
             None => 0,
@@ -242,14 +253,15 @@ impl Tables {
             is_class: true,
             ..flags
         };
-        self.define(symbol, range, Binds::Both, flags, nothing)?;
-        self.class_members(symbol, class, setting.is_ambient, &mut dependencies)?;
+        self.define(symbol, range, Binds::Both, flags, nothing);
+        self.class_members(symbol, class, setting.is_ambient, &mut dependencies);
+        self.lacks |= dependencies.lacks;
         if let Some(draft) = self.drafts.get_mut(symbol.0)
             && let Some(declaration) = draft.declarations.get_mut(place)
         {
             declaration.target = Target::Definition(flags, dependencies);
         }
-        Ok(symbol)
+        symbol
     }
 
     /// An interface with its members.
@@ -259,23 +271,23 @@ impl Tables {
         range: SourceRange,
         parent: SymbolNo,
         flags: Flags,
-    ) -> Result<SymbolNo, AllocError> {
+    ) -> SymbolNo {
         let TsInterfaceDecl {
             id,
             type_params,
             extends,
             ..
         } = TsInterfaceDecl::of(interface);
-        let symbol = self.symbol_or_default(id, parent)?;
+        let symbol = self.symbol_or_default(id, parent);
         let mut dependencies = self.dependencies();
-        dependencies.written(type_params)?;
-        dependencies.heritage(extends)?;
-        self.define(symbol, range, Binds::Type, flags, dependencies)?;
-        self.interface_members(symbol, interface)?;
-        Ok(symbol)
+        dependencies.written(type_params);
+        dependencies.heritage(extends);
+        self.define(symbol, range, Binds::Type, flags, dependencies);
+        self.interface_members(symbol, interface);
+        symbol
     }
 
-    fn type_alias(&mut self, alias: Part<'_>, setting: Setting) -> Result<SymbolNo, AllocError> {
+    fn type_alias(&mut self, alias: Part<'_>, setting: Setting) -> SymbolNo {
         let TsTypeAliasDecl {
             span,
             id,
@@ -283,32 +295,48 @@ impl Tables {
             type_ann,
             ..
         } = TsTypeAliasDecl::of(alias);
-        let symbol = self.symbol_or_default(id, setting.parent)?;
+        let symbol = self.symbol_or_default(id, setting.parent);
         let mut dependencies = self.dependencies();
-        dependencies.written(type_params)?;
-        dependencies.written(type_ann)?;
+        dependencies.written(type_params);
+        dependencies.written(type_ann);
         self.define(
             symbol,
             setting.range(span),
             Binds::Type,
             setting.flags(),
             dependencies,
-        )?;
-        Ok(symbol)
+        );
+        symbol
+    }
+
+    fn enum_member(&mut self, owner: SymbolNo, member: Part<'_>) -> Result<(), AllocError> {
+        let TsEnumMember { span, id, .. } = TsEnumMember::of(member);
+        let name = Atom::from_str(self.alloc, text_of(id))?;
+        if self.export_of(owner, &name).is_some() {
+            return Ok(());
+        }
+        let made = self.push_named(owner, name.as_str());
+        let nothing = self.dependencies();
+        self.define(made, span, Binds::Both, PLAIN, nothing);
+        if let Some(draft) = self.drafts.get_mut(made.0) {
+            draft.of_enum = Some(owner);
+        }
+        self.export(owner, &name, made);
+        Ok(())
     }
 
     // An enum, whose members are exports of it.
-    fn enumeration(&mut self, decl: Part<'_>, setting: Setting) -> Result<SymbolNo, AllocError> {
+    fn enumeration(&mut self, decl: Part<'_>, setting: Setting) -> SymbolNo {
         let TsEnumDecl {
             span,
             id,
             members,
             ..
         } = TsEnumDecl::of(decl);
-        let symbol = self.symbol_or_default(id, setting.parent)?;
+        let symbol = self.symbol_or_default(id, setting.parent);
         let mut dependencies = self.dependencies();
         for member in members.parts() {
-            dependencies.written(TsEnumMember::of(member.read()).init)?;
+            dependencies.written(TsEnumMember::of(member.read()).init);
         }
         self.define(
             symbol,
@@ -316,22 +344,12 @@ impl Tables {
             Binds::Both,
             setting.flags(),
             dependencies,
-        )?;
+        );
         for member in members.parts() {
-            let TsEnumMember { span, id, .. } = TsEnumMember::of(member.read());
-            let name = Atom::from_str(self.alloc, text_of(id))?;
-            if self.export_of(symbol, &name).is_some() {
-                continue;
-            }
-            let made = self.push_named(symbol, name.as_str())?;
-            let nothing = self.dependencies();
-            self.define(made, span, Binds::Both, PLAIN, nothing)?;
-            if let Some(draft) = self.drafts.get_mut(made.0) {
-                draft.of_enum = Some(symbol);
-            }
-            self.export(symbol, name, made)?;
+            let done = self.enum_member(symbol, member.read());
+            self.note(done);
         }
-        Ok(symbol)
+        symbol
     }
 
     // A namespace, whose body is still to be looked at.
@@ -339,8 +357,8 @@ impl Tables {
         &mut self,
         decl: Part<'a>,
         setting: Setting,
-        waiting: &mut Vec<Task<'a>>,
-    ) -> Result<Option<SymbolNo>, AllocError> {
+        waiting: &mut Waiting<Task<'a>>,
+    ) -> Option<SymbolNo> {
         let TsModuleDecl {
             span,
             declare,
@@ -350,30 +368,26 @@ impl Tables {
             ..
         } = TsModuleDecl::of(decl);
         if global || id.kind() != Kind::Ident || body.is_absent() {
-            return Ok(None);
+            return None;
         }
-        let symbol = self.symbol_or_default(id, setting.parent)?;
+        let symbol = self.symbol_or_default(id, setting.parent);
         let flags = Flags {
             is_ts_namespace: true,
             ..setting.flags()
         };
         let nothing = self.dependencies();
-        self.define(symbol, setting.range(span), Binds::Both, flags, nothing)?;
+        self.define(symbol, setting.range(span), Binds::Both, flags, nothing);
         waiting.push(Task {
             part: body,
             symbol,
             is_ambient: setting.is_ambient || declare,
             way: Way::Body,
-        })?;
-        Ok(Some(symbol))
+        });
+        Some(symbol)
     }
 
     /// The body of a namespace.
-    pub fn namespace_body<'a>(
-        &mut self,
-        task: Task<'a>,
-        waiting: &mut Vec<Task<'a>>,
-    ) -> Result<(), AllocError> {
+    pub fn namespace_body<'a>(&mut self, task: Task<'a>, waiting: &mut Waiting<Task<'a>>) {
         let Task {
             part: body,
             symbol,
@@ -384,45 +398,60 @@ impl Tables {
                 part: TsModuleBlock::of(body).body,
                 way: Way::Items,
                 ..task
-            })?;
-            return Ok(());
+            });
+            return;
         }
         let TsNamespaceDecl { span, id, body, .. } = TsNamespaceDecl::of(body);
-        let Some(name) = id_of(self.alloc, id)? else {
-            return Ok(());
+        let Some(name) = self.id(id) else {
+            return;
         };
-        self.join(name.clone()?, symbol)?;
-        let shown = name.0.clone()?;
-        let inner = self.symbol_of(name, symbol)?;
+        self.join(&name, symbol);
+        let inner = self.symbol_of(&name, symbol);
         let flags = Flags {
             is_ts_namespace: true,
             has_export_keyword: true,
             ..PLAIN
         };
         let nothing = self.dependencies();
-        self.define(inner, span, Binds::Both, flags, nothing)?;
-        self.export(symbol, shown, inner)?;
+        self.define(inner, span, Binds::Both, flags, nothing);
+        self.export(symbol, &name.0, inner);
         waiting.push(Task {
             part: body,
             symbol: inner,
             ..task
-        })?;
-        Ok(())
+        });
     }
 
-    /// A declaration, with the symbols that it declares.
-    pub fn declaration<'a>(
+    fn class_declaration(&mut self, decl: Part<'_>, setting: Setting) -> SymbolNo {
+        let ClassDecl {
+            ident,
+            declare,
+            class,
+        } = ClassDecl::of(decl);
+        let Class {
+            span,
+            type_params,
+            ..
+        } = Class::of(class);
+        let flags = Flags {
+            is_plain_class_decl: type_params.is_absent(),
+            ..setting.flags()
+        };
+        let inner = Setting {
+            is_ambient: setting.is_ambient || declare,
+            ..setting
+        };
+        self.class(ident, class, setting.range(span), inner, flags)
+    }
+
+    // A declaration that is no list of variables, with the symbol that it declares.
+    fn single<'a>(
         &mut self,
         decl: Part<'a>,
         setting: Setting,
-        waiting: &mut Vec<Task<'a>>,
-    ) -> Result<Vec<SymbolNo>, AllocError> {
-        let mut made = Vec::new(self.alloc);
-        let symbol = match decl.kind() {
-            Kind::VarDecl | Kind::UsingDecl => {
-                self.variables(decl, setting, &mut made)?;
-                None
-            }
+        waiting: &mut Waiting<Task<'a>>,
+    ) -> Option<SymbolNo> {
+        match decl.kind() {
             Kind::FnDecl => {
                 let FnDecl {
                     ident,
@@ -430,39 +459,31 @@ impl Tables {
                     ..
                 } = FnDecl::of(decl);
                 let range = setting.range(Function::of(function).span);
-                Some(self.function(ident, function, range, setting.parent, setting.flags())?)
+                Some(self.function(ident, function, range, setting.parent, setting.flags()))
             }
-            Kind::ClassDecl => {
-                let ClassDecl {
-                    ident,
-                    declare,
-                    class,
-                } = ClassDecl::of(decl);
-                let Class {
-                    span,
-                    type_params,
-                    ..
-                } = Class::of(class);
-                let flags = Flags {
-                    is_plain_class_decl: type_params.is_absent(),
-                    ..setting.flags()
-                };
-                let inner = Setting {
-                    is_ambient: setting.is_ambient || declare,
-                    ..setting
-                };
-                Some(self.class(ident, class, setting.range(span), inner, flags)?)
-            }
+            Kind::ClassDecl => Some(self.class_declaration(decl, setting)),
             Kind::TsInterfaceDecl => {
                 let range = setting.range(TsInterfaceDecl::of(decl).span);
-                Some(self.interface(decl, range, setting.parent, setting.flags())?)
+                Some(self.interface(decl, range, setting.parent, setting.flags()))
             }
-            Kind::TsTypeAliasDecl => Some(self.type_alias(decl, setting)?),
-            Kind::TsEnumDecl => Some(self.enumeration(decl, setting)?),
-            Kind::TsModuleDecl => self.namespace(decl, setting, waiting)?,
+            Kind::TsTypeAliasDecl => Some(self.type_alias(decl, setting)),
+            Kind::TsEnumDecl => Some(self.enumeration(decl, setting)),
+            Kind::TsModuleDecl => self.namespace(decl, setting, waiting),
             _ => None,
-        };
-        if let Some(symbol) = symbol {
+        }
+    }
+
+    /// A declaration, with the symbols that it declares.
+    pub fn declaration<'a>(
+        &mut self,
+        decl: Part<'a>,
+        setting: Setting,
+        waiting: &mut Waiting<Task<'a>>,
+    ) -> Result<Vec<SymbolNo>, AllocError> {
+        let mut made = Vec::new(self.alloc);
+        if matches!(decl.kind(), Kind::VarDecl | Kind::UsingDecl) {
+            self.variables(decl, setting, &mut made)?;
+        } else if let Some(symbol) = self.single(decl, setting, waiting) {
             made.push(symbol)?;
         }
         Ok(made)

@@ -65,9 +65,9 @@ impl Tables {
         for specifier in specifiers.parts() {
             let (name, span, local) = imported(self.alloc, specifier.read())?;
             if let Some(id) = id_of(self.alloc, local)? {
-                let symbol = self.symbol_of(id, parent)?;
+                let symbol = self.symbol_of(&id, parent);
                 let target = file(self.alloc, source_of(src), name)?;
-                self.alias(symbol, span, target)?;
+                self.alias(symbol, span, target);
             }
         }
         Ok(())
@@ -82,9 +82,10 @@ impl Tables {
         parent: SymbolNo,
     ) -> Result<(), AllocError> {
         let name = Atom::from_str(self.alloc, text_of(shown))?;
-        let symbol = self.push_named(parent, name.as_str())?;
-        self.alias(symbol, span, target)?;
-        self.export(parent, name, symbol)
+        let symbol = self.push_named(parent, name.as_str());
+        self.alias(symbol, span, target);
+        self.export(parent, &name, symbol);
+        Ok(())
     }
 
     fn local_target(&self, orig: Part<'_>) -> Result<Target, AllocError> {
@@ -97,6 +98,36 @@ impl Tables {
         }
     }
 
+    fn export_specifier(
+        &mut self,
+        specifier: Part<'_>,
+        src: Part<'_>,
+        parent: SymbolNo,
+    ) -> Result<(), AllocError> {
+        if specifier.kind() == Kind::ExportNamespaceSpecifier {
+            let ExportNamespaceSpecifier { span, name } = ExportNamespaceSpecifier::of(specifier);
+            let target = file(self.alloc, source_of(src), FileDepName::Star)?;
+            return self.export_name(name, span, target, parent);
+        }
+        if specifier.kind() != Kind::ExportNamedSpecifier {
+            return Ok(());
+        }
+        let ExportNamedSpecifier {
+            span,
+            orig,
+            exported,
+            ..
+        } = ExportNamedSpecifier::of(specifier);
+        let target = if src.is_absent() {
+            self.local_target(orig)?
+        } else {
+            let name = named(self.alloc, text_of(orig))?;
+            file(self.alloc, source_of(src), name)?
+        };
+        let shown = if exported.is_absent() { orig } else { exported };
+        self.export_name(shown, span, target, parent)
+    }
+
     pub fn export_named(&mut self, decl: Part<'_>, parent: SymbolNo) -> Result<(), AllocError> {
         let NamedExport {
             specifiers,
@@ -104,29 +135,7 @@ impl Tables {
             ..
         } = NamedExport::of(decl);
         for specifier in specifiers.parts() {
-            let specifier = specifier.read();
-            if specifier.kind() == Kind::ExportNamespaceSpecifier {
-                let ExportNamespaceSpecifier { span, name } = ExportNamespaceSpecifier::of(
-                    specifier,
-                );
-                let target = file(self.alloc, source_of(src), FileDepName::Star)?;
-                self.export_name(name, span, target, parent)?;
-            } else if specifier.kind() == Kind::ExportNamedSpecifier {
-                let ExportNamedSpecifier {
-                    span,
-                    orig,
-                    exported,
-                    ..
-                } = ExportNamedSpecifier::of(specifier);
-                let target = if src.is_absent() {
-                    self.local_target(orig)?
-                } else {
-                    let name = named(self.alloc, text_of(orig))?;
-                    file(self.alloc, source_of(src), name)?
-                };
-                let shown = if exported.is_absent() { orig } else { exported };
-                self.export_name(shown, span, target, parent)?;
-            }
+            self.export_specifier(specifier.read(), src, parent)?;
         }
         Ok(())
     }
@@ -169,25 +178,19 @@ impl Tables {
             module_ref,
             ..
         } = TsImportEqualsDecl::of(decl);
-        let Some(name) = id_of(self.alloc, id)? else {
-            return Ok(());
-        };
-        let shown = name.0.clone()?;
-        let symbol = self.symbol_of(name, parent)?;
         let target = self.equals_target(module_ref)?;
-        self.alias(symbol, span, target)?;
-        if is_export {
-            self.export(parent, shown, symbol)?;
+        if let Some(name) = self.id(id) {
+            let symbol = self.symbol_of(&name, parent);
+            self.alias(symbol, span, target);
+            if is_export {
+                self.export(parent, &name.0, symbol);
+            }
         }
         Ok(())
     }
 
     /// `export default` of a class, a function or an interface.
-    pub fn default_declaration(
-        &mut self,
-        decl: Part<'_>,
-        parent: SymbolNo,
-    ) -> Result<(), AllocError> {
+    pub fn default_declaration(&mut self, decl: Part<'_>, parent: SymbolNo) {
         let ExportDefaultDecl { span, decl } = ExportDefaultDecl::of(decl);
         let symbol = match decl.kind() {
             Kind::ClassExpr => {
@@ -197,37 +200,33 @@ impl Tables {
                     is_ambient: false,
                     exported: None,
                 };
-                self.class(ident, class, span, setting, PLAIN)?
+                self.class(ident, class, span, setting, PLAIN)
             }
             Kind::FnExpr => {
                 let FnExpr { ident, function } = FnExpr::of(decl);
-                self.function(ident, function, span, parent, PLAIN)?
+                self.function(ident, function, span, parent, PLAIN)
             }
-            _ => self.interface(decl, span, parent, PLAIN)?,
+            _ => self.interface(decl, span, parent, PLAIN),
         };
-        self.export_default(parent, symbol)
+        self.export_default(parent, symbol);
     }
 
     /// `export default` of a value.
-    pub fn default_expression(
-        &mut self,
-        decl: Part<'_>,
-        parent: SymbolNo,
-    ) -> Result<(), AllocError> {
+    pub fn default_expression(&mut self, decl: Part<'_>, parent: SymbolNo) {
         let ExportDefaultExpr { span, expr } = ExportDefaultExpr::of(decl);
-        let symbol = self.unnamed_default(parent)?;
-        match id_of(self.alloc, expr)? {
-            Some(id) => self.alias(symbol, span, Target::Name(id))?,
+        let symbol = self.unnamed_default(parent);
+        match self.id(expr) {
+            Some(id) => self.alias(symbol, span, Target::Name(id)),
             None => {
                 let flags = Flags {
                     is_default_class_expr: expr.kind() == Kind::ClassExpr,
                     ..PLAIN
                 };
                 let mut dependencies = self.dependencies();
-                dependencies.value(expr)?;
-                self.define(symbol, span, Binds::Both, flags, dependencies)?;
+                dependencies.value(expr);
+                self.define(symbol, span, Binds::Both, flags, dependencies);
             }
         }
-        self.export_default(parent, symbol)
+        self.export_default(parent, symbol);
     }
 }

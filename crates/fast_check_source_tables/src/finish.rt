@@ -31,6 +31,9 @@ fn in_order(
     alloc: Global,
     dependencies: Dependencies,
 ) -> Result<Vec<(Dependency, Space)>, AllocError> {
+    if dependencies.lacks {
+        return Err(AllocError);
+    }
     let mut by_place: BTreeMap<usize, (Dependency, Space)> = BTreeMap::new(alloc);
     for (key, place) in dependencies.found {
         let _ = by_place.insert(place, key)?;
@@ -94,7 +97,7 @@ impl Bindings {
                 Dependency::Import(_, _) => Some(space),
             };
             if let Some(asked) = asked {
-                kept.add(dependency, asked)?;
+                kept.add(dependency, asked);
             }
         }
         let ordered = in_order(alloc, kept)?;
@@ -195,12 +198,13 @@ fn enum_dependencies(
 }
 
 fn add_copies(alloc: Global, all: &mut Dependencies, own: &Dependencies) -> Result<(), AllocError> {
+    all.lacks |= own.lacks;
     let mut by_place = BTreeMap::new(alloc);
     for (key, place) in own.found.iter() {
         let _ = by_place.insert(*place, key)?;
     }
     for (_, key) in by_place.iter() {
-        all.add(copied(&key.0)?, key.1)?;
+        all.add(copied(&key.0)?, key.1);
     }
     Ok(())
 }
@@ -311,9 +315,12 @@ pub fn tables_of(
     let mut tables = Tables::new(alloc)?;
     let program = tree.read();
     if program.kind() == Kind::Module {
-        tables.items(Module::of(program).body, is_declaration_file)?;
+        tables.items(Module::of(program).body, is_declaration_file);
     } else {
-        tables.items(Script::of(program).body, false)?;
+        tables.items(Script::of(program).body, false);
+    }
+    if tables.lacks {
+        return Err(AllocError);
     }
     let Tables {
         drafts,

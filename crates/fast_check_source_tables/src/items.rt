@@ -6,7 +6,8 @@ ghost use Rattle.fast_check_tree_syntax.specs.declared.kind.Kind.TheVariants as 
 
 use crate::builder::{Binds, MODULE, PLAIN, SymbolNo, Tables};
 use crate::declarations::{Setting, declared_names};
-use fast_check_source_references::names::{id_of, text_of};
+use fast_check_source_heights::Waiting;
+use fast_check_source_references::names::text_of;
 use fast_check_tree_forms_expressions::{AssignExpr, MemberExpr};
 use fast_check_tree_forms_programs::ExportDecl;
 use fast_check_tree_forms_statements::ExprStmt;
@@ -73,7 +74,7 @@ pub struct Task<'a> {
 }
 
 // The items of a body, behind them what may add properties to functions.
-fn push_items<'a>(task: Task<'a>, waiting: &mut Vec<Task<'a>>) -> Result<(), AllocError> {
+fn push_items<'a>(task: Task<'a>, waiting: &mut Waiting<Task<'a>>) {
     let items = task.part;
     for item in items.parts().iter().rev() {
         if item.read().kind() == Kind::ExprStmt {
@@ -81,7 +82,7 @@ fn push_items<'a>(task: Task<'a>, waiting: &mut Vec<Task<'a>>) -> Result<(), All
                 part: ExprStmt::of(item.read()).expr,
                 way: Way::Expando,
                 ..task
-            })?;
+            });
         }
     }
     let way = if task.is_ambient && !says_exports(items) {
@@ -94,42 +95,37 @@ fn push_items<'a>(task: Task<'a>, waiting: &mut Vec<Task<'a>>) -> Result<(), All
             part: item.read(),
             way,
             ..task
-        })?;
+        });
     }
-    Ok(())
 }
 
 impl Tables {
     /// The items of a module.
-    pub fn items(&mut self, items: Part<'_>, is_ambient: bool) -> Result<(), AllocError> {
-        let mut waiting = Vec::new(self.alloc);
-        waiting.push(Task {
+    pub fn items(&mut self, items: Part<'_>, is_ambient: bool) {
+        let first = Task {
             part: items,
             symbol: MODULE,
             is_ambient,
             way: Way::Items,
-        })?;
+        };
+        let mut waiting = Waiting::new(self.alloc);
+        waiting.push(first);
         for _turn in 0..u64::MAX {
             let Some(task) = waiting.pop() else {
                 break;
             };
             match task.way {
-                Way::Body => self.namespace_body(task, &mut waiting)?,
-                Way::Items => push_items(task, &mut waiting)?,
-                Way::Item => self.item(task, false, &mut waiting)?,
-                Way::Exported => self.item(task, true, &mut waiting)?,
-                Way::Expando => self.expando(task.part)?,
+                Way::Body => self.namespace_body(task, &mut waiting),
+                Way::Items => push_items(task, &mut waiting),
+                Way::Item => self.item(task, false, &mut waiting),
+                Way::Exported => self.item(task, true, &mut waiting),
+                Way::Expando => self.expando(task.part),
             }
         }
-        Ok(())
+        self.lacks |= waiting.lacks;
     }
 
-    fn item<'a>(
-        &mut self,
-        task: Task<'a>,
-        all_exported: bool,
-        waiting: &mut Vec<Task<'a>>,
-    ) -> Result<(), AllocError> {
+    fn item<'a>(&mut self, task: Task<'a>, all_exported: bool, waiting: &mut Waiting<Task<'a>>) {
         let (decl, exported) = declaration_of(task.part);
         if !is_declaration(decl) {
             return self.module_item(task.part, task.symbol);
@@ -140,15 +136,26 @@ impl Tables {
             exported,
         };
         let shown = exported.is_some() || all_exported;
+        let done = self.declare_item(decl, setting, shown, waiting);
+        self.note(done);
+    }
+
+    fn declare_item<'a>(
+        &mut self,
+        decl: Part<'a>,
+        setting: Setting,
+        shown: bool,
+        waiting: &mut Waiting<Task<'a>>,
+    ) -> Result<(), AllocError> {
         if shown && setting.parent != MODULE {
-            for id in declared_names(self.alloc, decl)? {
-                self.join(id, setting.parent)?;
+            for id in declared_names(self.alloc, decl)?.iter() {
+                self.join(id, setting.parent);
             }
         }
         let made = self.declaration(decl, setting, waiting)?;
         if shown {
-            for symbol in made {
-                self.export_by_name(setting.parent, symbol)?;
+            for symbol in made.iter() {
+                self.export_by_name(setting.parent, *symbol)?;
             }
         }
         Ok(())
@@ -162,25 +169,45 @@ impl Tables {
             },
             None => return Ok(()),
         };
-        self.export(from, name, symbol)
+        self.export(from, &name, symbol);
+        Ok(())
     }
 
-    fn module_item(&mut self, item: Part<'_>, parent: SymbolNo) -> Result<(), AllocError> {
-        match item.kind() {
+    fn module_item(&mut self, item: Part<'_>, parent: SymbolNo) {
+        let done = match item.kind() {
             Kind::ImportDecl => self.import(item, parent),
             Kind::NamedExport => self.export_named(item, parent),
-            Kind::ExportDefaultDecl => self.default_declaration(item, parent),
-            Kind::ExportDefaultExpr => self.default_expression(item, parent),
             Kind::ExportAll => self.export_all(item),
             Kind::TsImportEqualsDecl => self.import_equals(item, parent),
-            _ => Ok(()),
+            Kind::ExportDefaultDecl => return self.default_declaration(item, parent),
+            Kind::ExportDefaultExpr => return self.default_expression(item, parent),
+            _ => return,
+        };
+        self.note(done);
+    }
+
+    // The function to which a property is assigned, `a.b = c;`, and the name of the property.
+    fn assigned<'a>(&mut self, left: Part<'a>) -> Option<(SymbolNo, &'a str)> {
+        if left.kind() != Kind::MemberExpr {
+            return None;
+        }
+        let MemberExpr { obj, prop, .. } = MemberExpr::of(left);
+        if prop.kind() != Kind::IdentName {
+            return None;
+        }
+        let id = self.id(obj)?;
+        let symbol = self.find(&id)?;
+        if self.drafts.get(symbol.0)?.is_function {
+            Some((symbol, text_of(prop)))
+        } else {
+            None
         }
     }
 
-    // A property that is assigned to a function, `a.b = c;`, is an export of the function.
-    fn expando(&mut self, expr: Part<'_>) -> Result<(), AllocError> {
+    // A property that is assigned to a function is an export of the function.
+    fn expando(&mut self, expr: Part<'_>) {
         if expr.kind() != Kind::AssignExpr {
-            return Ok(());
+            return;
         }
         let AssignExpr {
             span,
@@ -188,31 +215,29 @@ impl Tables {
             left,
             right,
         } = AssignExpr::of(expr);
-        if op != "=" || left.kind() != Kind::MemberExpr {
-            return Ok(());
+        if op == "="
+            && let Some((symbol, name)) = self.assigned(left)
+        {
+            let done = self.property(symbol, name, span, right);
+            self.note(done);
         }
-        let MemberExpr { obj, prop, .. } = MemberExpr::of(left);
-        if prop.kind() != Kind::IdentName {
-            return Ok(());
+    }
+
+    fn property(
+        &mut self,
+        owner: SymbolNo,
+        name: &str,
+        span: SourceRange,
+        value: Part<'_>,
+    ) -> Result<(), AllocError> {
+        let name = Atom::from_str(self.alloc, name)?;
+        if self.export_of(owner, &name).is_none() {
+            let made = self.push_named(owner, name.as_str());
+            let mut dependencies = self.dependencies();
+            dependencies.value(value);
+            self.define(made, span, Binds::Value, PLAIN, dependencies);
+            self.export(owner, &name, made);
         }
-        let Some(id) = id_of(self.alloc, obj)? else {
-            return Ok(());
-        };
-        let Some(symbol) = self.find(&id) else {
-            return Ok(());
-        };
-        let is_function = match self.drafts.get(symbol.0) {
-            Some(draft) => draft.is_function,
-            None => false,
-        };
-        let name = Atom::from_str(self.alloc, text_of(prop))?;
-        if !is_function || self.export_of(symbol, &name).is_some() {
-            return Ok(());
-        }
-        let made = self.push_named(symbol, name.as_str())?;
-        let mut dependencies = self.dependencies();
-        dependencies.value(right)?;
-        self.define(made, span, Binds::Value, PLAIN, dependencies)?;
-        self.export(symbol, name, made)
+        Ok(())
     }
 }
