@@ -5,7 +5,7 @@ use crate::urls::{external, url_of};
 use anyhow::Result;
 use fast_check_source_comments::comments_of;
 use fast_check_source_configs::comments::named_types;
-use fast_check_source_configs::config::Messages;
+use fast_check_source_configs::messages::Messages;
 use fast_check_source_configs::tsconfig::Projects;
 use fast_check_source_files::files::{Files, name_of};
 use fast_check_source_files::messages::{Message, Places};
@@ -234,16 +234,15 @@ impl Reading {
         path: &str,
         places: &mut Places<'_>,
         source: SourceText<'_>,
-    ) -> Result<(), AllocError> {
+    ) {
         let place = places.place_of((source.start as usize).saturating_sub(1));
         let (code, why) = ("missing-module", "there is no such module");
-        let message = Message::at_place(alloc, path, place, code, why)?;
+        let message = Message::at_place(alloc, path, place, code, why);
         if source.is_exported && self.entries.contains(path) {
-            self.messages.faults.push(message)?;
+            self.messages.faults.push(message);
         } else {
-            self.messages.warnings.push(message)?;
+            self.messages.warnings.push(message);
         }
-        Ok(())
     }
 
     // Notes where a text of a module leads.
@@ -302,7 +301,7 @@ impl Reading {
             leads.push(Lead::of(alloc, *source, target.as_ref())?)?;
             match target {
                 Some(target) => self.note(alloc, place, source.text, target, &mut resolved)?,
-                None => self.missing(alloc, place.path, &mut places, *source)?,
+                None => self.missing(alloc, place.path, &mut places, *source),
             }
         }
         self.push_read(alloc, place.path, leads, names_return)?;
@@ -314,26 +313,19 @@ impl Reading {
         let text = files.read(path)?;
         if text.is_none() {
             let why = "the file is no UTF-8";
-            let message = Message::of_file(files.alloc(), path, "syntax-error", why)?;
-            self.messages.errors.push(message)?;
+            let message = Message::of_file(files.alloc(), path, "syntax-error", why);
+            self.messages.errors.push(message);
         }
         Ok(text)
     }
 
     // The tree of a text, if the parser reads it.
-    fn tree(
-        &mut self,
-        alloc: Global,
-        path: &str,
-        text: &str,
-        is_jsx: bool,
-    ) -> Result<Option<Tree>, AllocError> {
+    fn tree(&mut self, alloc: Global, path: &str, text: &str, is_jsx: bool) -> Option<Tree> {
         match parse_program(alloc, text, is_jsx) {
-            Ok(tree) => Ok(Some(tree)),
+            Ok(tree) => Some(tree),
             Err(error) => {
-                let message = refused(alloc, path, text, error)?;
-                self.messages.errors.push(message)?;
-                Ok(None)
+                self.messages.errors.push(refused(alloc, path, text, error));
+                None
             }
         }
     }
@@ -365,7 +357,7 @@ impl Reading {
             return Ok(());
         };
         let text = text.as_str();
-        let Some(tree) = self.tree(alloc, path, text, media_type == MediaType::Tsx)? else {
+        let Some(tree) = self.tree(alloc, path, text, media_type == MediaType::Tsx) else {
             return Ok(());
         };
         let place = Place { path, url, text };
@@ -392,8 +384,8 @@ impl Reading {
             return Ok(());
         }
         if let Some(why) = files.refusal(path)? {
-            let message = Message::of_file(alloc, path, "refused-file", why)?;
-            self.messages.errors.push(message)?;
+            let message = Message::of_file(alloc, path, "refused-file", why);
+            self.messages.errors.push(message);
             return Ok(());
         }
         let url = url_of(alloc, path)?;

@@ -2,7 +2,7 @@
 use crate::follow::{Lead, ReadFile};
 use fast_check_build::answers::ModuleAnswer;
 use fast_check_print::print_answers;
-use fast_check_source_configs::config::Messages;
+use fast_check_source_configs::messages::Messages;
 use fast_check_source_files::messages::Message;
 use fast_check_source_input::{Input, Json, print_input};
 use fast_check_source_packages::exports::{Entry, Taken};
@@ -139,12 +139,15 @@ pub fn line_of(
     packages: &[Package],
     files: &[ReadFile],
 ) -> Result<String, AllocError> {
+    if messages.lacks() {
+        return Err(AllocError);
+    }
     let mut out = Writer::new(Vec::new(alloc));
     out.begin_object()?;
     let mut out = Json::new(print_told(alloc, out, told)?);
-    print_messages(&mut out, "errors", messages.errors.as_slice());
-    print_messages(&mut out, "faults", messages.faults.as_slice());
-    print_messages(&mut out, "warnings", messages.warnings.as_slice());
+    print_messages(&mut out, "errors", messages.errors.items.as_slice());
+    print_messages(&mut out, "faults", messages.faults.items.as_slice());
+    print_messages(&mut out, "warnings", messages.warnings.items.as_slice());
     out.key("packages");
     print_packages(&mut out, packages);
     out.key("files");

@@ -19,7 +19,7 @@ use crate::answers::{build, input_of};
 use crate::follow::{Found, modules_of};
 use crate::lines::{Told, line_of};
 use anyhow::Result;
-use fast_check_source_configs::config::Messages;
+use fast_check_source_configs::messages::Messages;
 use fast_check_source_configs::tsconfig::Projects;
 use fast_check_source_files::files::{Files, Text};
 use fast_check_source_files::messages::Message;
@@ -65,14 +65,14 @@ fn readable<'a>(
 
 // The status of a run: 2 where something cannot be read, else 1 where there is something to report.
 fn status_of(messages: &Messages, has_diagnostics: bool) -> u8
-    ensures unread { vec_len messages.now.errors ≢ 0 → result ≡ 2 }
-    ensures faulty { vec_len messages.now.errors ≡ 0 → vec_len messages.now.faults ≢ 0 → result ≡ 1 }
-    ensures diagnosed { vec_len messages.now.errors ≡ 0 → IsTrue has_diagnostics → result ≡ 1 }
-    ensures clean { vec_len messages.now.errors ≡ 0 → vec_len messages.now.faults ≡ 0 → ¬ (IsTrue has_diagnostics) → result ≡ 0 }
+    ensures unread { vec_len messages.now.errors.items ≢ 0 → result ≡ 2 }
+    ensures faulty { vec_len messages.now.errors.items ≡ 0 → vec_len messages.now.faults.items ≢ 0 → result ≡ 1 }
+    ensures diagnosed { vec_len messages.now.errors.items ≡ 0 → IsTrue has_diagnostics → result ≡ 1 }
+    ensures clean { vec_len messages.now.errors.items ≡ 0 → vec_len messages.now.faults.items ≡ 0 → ¬ (IsTrue has_diagnostics) → result ≡ 0 }
 {
-    if !messages.errors.is_empty() {
+    if !messages.errors.items.is_empty() {
         2
-    } else if has_diagnostics || !messages.faults.is_empty() {
+    } else if has_diagnostics || !messages.faults.items.is_empty() {
         1
     } else {
         0
@@ -104,7 +104,7 @@ fn answer(
     let mut projects = Projects::new(alloc);
     let packages = packages_of(&files, &mut projects, &mut messages)?;
     let (found, read, messages) = modules_of(&files, packages.as_slice(), projects, messages)?;
-    let asked = readable(alloc, packages.as_slice(), messages.errors.as_slice())?;
+    let asked = readable(alloc, packages.as_slice(), messages.errors.items.as_slice())?;
     let told = told_of(alloc, asked.as_slice(), found, asks_input)?;
     let status = status_of(&messages, told.has_diagnostics());
     let line = line_of(alloc, told, &messages, packages.as_slice(), read.as_slice())?;

@@ -1,4 +1,5 @@
 //! The texts by which a module names others.
+use fast_check_source_heights::Waiting;
 use fast_check_tree_forms_programs::{
     ExportAll, ExportNamedSpecifier, Ident, ImportDecl, ImportDefaultSpecifier,
     ImportNamedSpecifier, ImportStarAsSpecifier, NamedExport, Str, TsExternalModuleRef,
@@ -30,9 +31,10 @@ pub struct Named<'a> {
     pub names_return: bool,
 }
 
-// The sources of a module while they are gathered.
+// The sources of a module while they are gathered. Where memory runs out one is left out, and they say so.
 #[derive(Drop)]
 struct Sources<'a> {
+    lacks: bool,
     // The names that lists of the module export.
     exported: BTreeSet<&'a str>,
     found: Named<'a>,
@@ -49,40 +51,38 @@ fn local_name(specifier: Part<'_>) -> &str {
 }
 
 impl<'a> Sources<'a> {
-    fn export(&mut self, specifiers: Part<'a>) -> Result<(), AllocError> {
+    fn export(&mut self, specifiers: Part<'a>) {
         for specifier in specifiers.parts() {
             let specifier = specifier.read();
             if specifier.kind() == Kind::ExportNamedSpecifier {
                 let name = ExportNamedSpecifier::of(specifier).orig;
-                if name.kind() == Kind::Ident {
-                    let _ = self.exported.insert(Ident::of(name).sym)?;
+                if name.kind() == Kind::Ident
+                    && self.exported.insert(Ident::of(name).sym).is_err()
+                {
+                    self.lacks = true;
                 }
             }
         }
-        Ok(())
     }
 
-    fn push(
-        &mut self,
-        around: Part<'a>,
-        source: Part<'a>,
-        is_exported: bool,
-        is_effect: bool,
-    ) -> Result<(), AllocError> {
-        if source.kind() == Kind::Str {
-            let Str { span, value, .. } = Str::of(source);
-            self.found.sources.push(SourceText {
-                text: value,
-                start: span.start.0,
-                around: around.part(0).range().start.0,
-                is_exported,
-                is_effect,
-            })?;
+    fn push(&mut self, around: Part<'a>, source: Part<'a>, is_exported: bool, is_effect: bool) {
+        if source.kind() != Kind::Str {
+            return;
         }
-        Ok(())
+        let Str { span, value, .. } = Str::of(source);
+        let found = SourceText {
+            text: value,
+            start: span.start.0,
+            around: around.part(0).range().start.0,
+            is_exported,
+            is_effect,
+        };
+        if self.found.sources.push(found).is_err() {
+            self.lacks = true;
+        }
     }
 
-    fn import(&mut self, part: Part<'a>) -> Result<(), AllocError> {
+    fn import(&mut self, part: Part<'a>) {
         let ImportDecl {
             specifiers,
             src,
@@ -106,7 +106,7 @@ impl<'a> Sources<'a> {
         }
     }
 
-    fn part(&mut self, part: Part<'a>) -> Result<(), AllocError> {
+    fn part(&mut self, part: Part<'a>) {
         match part.kind() {
             Kind::ImportDecl => self.import(part),
             Kind::NamedExport => self.push(part, NamedExport::of(part).src, true, false),
@@ -115,11 +115,8 @@ impl<'a> Sources<'a> {
                 self.push(part, TsExternalModuleRef::of(part).expr, false, false)
             }
             Kind::TsImportType => self.push(part, TsImportType::of(part).arg, false, false),
-            Kind::ReturnStmt => {
-                self.returned(part);
-                Ok(())
-            }
-            _ => Ok(()),
+            Kind::ReturnStmt => self.returned(part),
+            _ => {}
         }
     }
 }
@@ -127,6 +124,7 @@ impl<'a> Sources<'a> {
 /// The texts of a tree, in order, and whether a body names its return type.
 pub fn sources_of<'a>(alloc: Global, program: Part<'a>) -> Result<Named<'a>, AllocError> {
     let mut sources = Sources {
+        lacks: false,
         exported: BTreeSet::new(alloc),
         found: Named {
             sources: Vec::new(alloc),
@@ -136,21 +134,25 @@ pub fn sources_of<'a>(alloc: Global, program: Part<'a>) -> Result<Named<'a>, All
     for list in program.parts() {
         for item in list.read().parts() {
             if item.read().kind() == Kind::NamedExport {
-                sources.export(NamedExport::of(item.read()).specifiers)?;
+                sources.export(NamedExport::of(item.read()).specifiers);
             }
         }
     }
-    let mut waiting = Vec::new(alloc);
-    waiting.push(program)?;
+    let mut waiting = Waiting::new(alloc);
+    waiting.push(program);
     for _turn in 0..u64::MAX {
         let Some(part) = waiting.pop() else {
             break;
         };
-        sources.part(part)?;
+        sources.part(part);
         for inner in part.parts().iter().rev() {
-            waiting.push(inner.read())?;
+            waiting.push(inner.read());
         }
     }
-    let Sources { found, .. } = sources;
-    Ok(found)
+    let Sources { lacks, found, .. } = sources;
+    if lacks || waiting.lacks {
+        Err(AllocError)
+    } else {
+        Ok(found)
+    }
 }

@@ -2,6 +2,7 @@
 ghost use Rattle.std.specs.Prelude.{◌≡◌, ◌∷◌, ◌++◌, [], IfOk, string_bytes};
 
 use crate::checks::unfit;
+use crate::messages::MessageList;
 use fast_check_source_files::files::{Files, below, joined};
 use fast_check_source_files::jsonc::value_of;
 use fast_check_source_files::messages::Message;
@@ -21,26 +22,6 @@ pub const NAMES: [&str; 5] = [
 const CONDITIONS: [&str; 8] = [
     "types", "deno", "import", "module", "node", "browser", "default", "require",
 ];
-
-/// What is said of the files of a folder.
-#[derive(Drop)]
-pub struct Messages {
-    /// What keeps a package from being read.
-    pub errors: Vec<Message>,
-    /// What is wrong with a package that is read.
-    pub faults: Vec<Message>,
-    pub warnings: Vec<Message>,
-}
-
-impl Messages {
-    pub fn new(alloc: Global) -> Messages {
-        Messages {
-            errors: Vec::new(alloc),
-            faults: Vec::new(alloc),
-            warnings: Vec::new(alloc),
-        }
-    }
-}
 
 /// A configuration file.
 #[derive(Drop)]
@@ -100,28 +81,28 @@ fn refused_member(
 fn read_config(
     files: &Files<'_>,
     path: String,
-    errors: &mut Vec<Message>,
+    errors: &mut MessageList,
 ) -> Result<Option<Config>, AllocError> {
     let alloc = files.alloc();
     if let Some(why) = files.refusal(path.as_str())? {
-        errors.push(Message::of_file(alloc, path.as_str(), "refused-file", why)?)?;
+        errors.push(Message::of_file(alloc, path.as_str(), "refused-file", why));
         return Ok(None);
     }
     let Some(text) = files.read(path.as_str())? else {
         let why = "the file is no UTF-8";
-        errors.push(Message::of_file(alloc, path.as_str(), "bad-configuration", why)?)?;
+        errors.push(Message::of_file(alloc, path.as_str(), "bad-configuration", why));
         return Ok(None);
     };
     let value = match value_of(alloc, text.as_str())? {
         Some(value) if value.as_object().is_some() => value,
         _ => {
             let why = "this is no object";
-            errors.push(refused(alloc, path.as_str(), text.as_str(), 0, why)?)?;
+            errors.push(refused(alloc, path.as_str(), text.as_str(), 0, why));
             return Ok(None);
         }
     };
     if let Some((member, wanted)) = unfit(&value) {
-        errors.push(refused_member(alloc, path.as_str(), text.as_str(), member, wanted)?)?;
+        errors.push(refused_member(alloc, path.as_str(), text.as_str(), member, wanted));
         return Ok(None);
     }
     Ok(Some(Config { path, text, value }))
@@ -131,7 +112,7 @@ fn read_config(
 pub fn configs_of(
     files: &Files<'_>,
     folder: &str,
-    errors: &mut Vec<Message>,
+    errors: &mut MessageList,
 ) -> Result<Vec<Config>, AllocError> {
     let mut found = Vec::new(files.alloc());
     for name in NAMES {

@@ -4,6 +4,7 @@
 mod checks;
 pub mod comments;
 pub mod config;
+pub mod messages;
 pub mod options;
 pub mod paths;
 pub mod tsconfig;

@@ -1,5 +1,6 @@
 //! The members of a workspace.
-use crate::config::{Config, Messages, NAMES, member, path_in};
+use crate::config::{Config, NAMES, member, path_in};
+use crate::messages::Messages;
 use fast_check_source_files::files::{Files, Standing, below, joined};
 use fast_check_source_files::globs::{fits, is_pattern, without_braces};
 use fast_check_source_files::messages::Message;
@@ -143,18 +144,18 @@ impl Members {
             let why = "this member of the workspace lies outside of the folder";
             messages
                 .errors
-                .push(Message::of_file(alloc, path, code, why)?)?;
+                .push(Message::of_file(alloc, path, code, why));
             return Ok(());
         };
         if files.standing(folder.as_str())? != Standing::Nothing {
             return self.add(alloc, folder.as_str());
         }
         let why = "this member of the workspace is not there";
-        let absence = Message::of_file(alloc, folder.as_str(), code, why)?;
+        let absence = Message::of_file(alloc, folder.as_str(), code, why);
         if is_deno {
-            messages.errors.push(absence)?;
+            messages.errors.push(absence);
         } else {
-            messages.warnings.push(absence)?;
+            messages.warnings.push(absence);
         }
         Ok(())
     }
@@ -187,7 +188,7 @@ impl Members {
             let code = "no-entry-point";
             messages
                 .warnings
-                .push(Message::of_file(alloc, "", code, why.as_str())?)?;
+                .push(Message::of_file(alloc, "", code, why.as_str()));
         }
         Ok(())
     }

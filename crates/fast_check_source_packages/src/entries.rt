@@ -2,6 +2,7 @@
 use crate::builds::{built_files, file_of, is_unread, sources_of_build};
 use crate::exports::{Entry, Taken, expanded, push_entry, written_exports};
 use fast_check_source_configs::config::{Config, path_in, quoted, text_of};
+use fast_check_source_configs::messages::MessageList;
 use fast_check_source_configs::paths::{behind, inside};
 use fast_check_source_configs::tsconfig::Projects;
 use fast_check_source_files::files::{Files, joined};
@@ -32,11 +33,11 @@ pub struct Entries {
     /// What is read in place of what is written.
     pub taken: Vec<Taken>,
     /// What keeps an entry point from being read.
-    pub wrong: Vec<Message>,
+    pub wrong: MessageList,
     /// What is passed over.
-    pub passed: Vec<Message>,
+    pub passed: MessageList,
     /// What may not be written.
-    pub errors: Vec<Message>,
+    pub errors: MessageList,
 }
 
 impl Entries {
@@ -44,9 +45,9 @@ impl Entries {
         Entries {
             found: Vec::new(alloc),
             taken: Vec::new(alloc),
-            wrong: Vec::new(alloc),
-            passed: Vec::new(alloc),
-            errors: Vec::new(alloc),
+            wrong: MessageList::new(alloc),
+            passed: MessageList::new(alloc),
+            errors: MessageList::new(alloc),
         }
     }
 }
@@ -139,41 +140,28 @@ struct Written<'a> {
 }
 
 impl<'a> Written<'a> {
-    // What is wrong with an entry point, where its path is written.
+    // What is wrong with an entry point, where its path is written, if it is asked for the place.
     fn message(
         self,
         alloc: Global,
         path: &str,
         code: &'static str,
-        text: &str,
+        why: &str,
+        has_place: bool,
     ) -> Result<Message, AllocError> {
-        match place_of(alloc, self.configs, path)? {
-            Some((config, at)) => {
-                let source = config.text.as_str();
-                Message::at(alloc, config.path.as_str(), source, at, code, text)
-            }
-            None => Message::of_file(alloc, self.folder, code, text),
+        let mut text = joined(alloc, "the entry point ", path)?;
+        text.push_str(why)?;
+        if has_place && let Some((config, at)) = place_of(alloc, self.configs, path)? {
+            let (path, source) = (config.path.as_str(), config.text.as_str());
+            return Message::at(alloc, path, source, at, code, text.as_str());
         }
+        Message::of_file(alloc, self.folder, code, text.as_str())
     }
 
     // Says what is wrong with an entry point.
-    fn say(
-        self,
-        alloc: Global,
-        path: &str,
-        code: &'static str,
-        why: &str,
-        out: &mut Vec<Message>,
-    ) -> Result<(), AllocError> {
-        let mut text = joined(alloc, "the entry point ", path)?;
-        text.push_str(why)?;
-        let message = if out.len() < PLACED {
-            self.message(alloc, path, code, text.as_str())?
-        } else {
-            Message::of_file(alloc, self.folder, code, text.as_str())?
-        };
-        out.push(message)?;
-        Ok(())
+    fn say(self, alloc: Global, path: &str, code: &'static str, why: &str, out: &mut MessageList) {
+        let has_place = out.items.len() < PLACED;
+        out.push(self.message(alloc, path, code, why, has_place));
     }
 
     // An entry point that is a module goes to those that are found.
@@ -192,7 +180,8 @@ impl<'a> Written<'a> {
             return Ok(());
         }
         let why = " is no module, and is passed over";
-        self.say(alloc, text, NO_ENTRY_POINT, why, &mut out.passed)
+        self.say(alloc, text, NO_ENTRY_POINT, why, &mut out.passed);
+        Ok(())
     }
 
     // Warns of a file of a build that is read in place of its source.
@@ -204,17 +193,14 @@ impl<'a> Written<'a> {
         wanted: &str,
         out: &mut Entries,
     ) -> Result<(), AllocError> {
-        if !is_unread(files, projects, self.folder, wanted)? {
-            return Ok(());
+        if is_unread(files, projects, self.folder, wanted)? {
+            let (code, why) = (
+                "built-entry-point",
+                " is a built file, and nothing of src/ is read",
+            );
+            self.say(files.alloc(), text, code, why, &mut out.passed);
         }
-        let why = " is a built file, and nothing of src/ is read";
-        self.say(
-            files.alloc(),
-            text,
-            "built-entry-point",
-            why,
-            &mut out.passed,
-        )
+        Ok(())
     }
 
     // Notes which source is read in place of a file. An entry point with a `*` is written as each file that it stands for.
@@ -249,10 +235,12 @@ impl<'a> Written<'a> {
         let wanted = entry.path.as_str();
         if text.starts_with("/") || behind(wanted, self.folder).is_none() {
             let why = " lies outside of the package";
-            return self.say(alloc, text, NO_ENTRY_POINT, why, &mut out.errors);
+            self.say(alloc, text, NO_ENTRY_POINT, why, &mut out.errors);
+            return Ok(());
         }
         let Some(file) = file_or_source(files, projects, wanted, source)? else {
-            return self.say(alloc, text, NO_ENTRY_POINT, " is not there", &mut out.wrong);
+            self.say(alloc, text, NO_ENTRY_POINT, " is not there", &mut out.wrong);
+            return Ok(());
         };
         match source {
             Some(path) => self.take_source(alloc, text, wanted, path, &mut out.taken)?,
@@ -267,7 +255,7 @@ impl<'a> Written<'a> {
         files: &Files<'_>,
         written: &[Entry],
         built: &BTreeMap<String, String>,
-        passed: &mut Vec<Message>,
+        passed: &mut MessageList,
     ) -> Result<Candidates, AllocError> {
         let alloc = files.alloc();
         let mut all = Candidates {
@@ -278,7 +266,7 @@ impl<'a> Written<'a> {
             let path = each.path.as_str();
             let some = expanded(files, self.folder, each, built)?;
             if some.is_empty() {
-                self.say(alloc, path, NO_ENTRY_POINT, " fits no file", passed)?;
+                self.say(alloc, path, NO_ENTRY_POINT, " fits no file", passed);
             }
             all.add(alloc, path, some)?;
         }
@@ -327,8 +315,8 @@ impl<'a> Written<'a> {
         path: &str,
         out: &mut Entries,
     ) -> Result<(), AllocError> {
-        out.wrong.clear();
-        out.passed.clear();
+        out.wrong.items.clear();
+        out.passed.items.clear();
         out.taken.clear();
         if let Some(entry) = written.first() {
             push_taken(alloc, entry.path.as_str(), path, &mut out.taken)?;

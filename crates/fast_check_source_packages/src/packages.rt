@@ -2,9 +2,8 @@
 use crate::entries::{Entries, entry_points};
 use crate::exports::{Entry, push_entry};
 use crate::resolve::{Package, behind_links, typed};
-use fast_check_source_configs::config::{
-    Config, Messages, add_imports, configs_of, member, text_of,
-};
+use fast_check_source_configs::config::{Config, add_imports, configs_of, member, text_of};
+use fast_check_source_configs::messages::{MessageList, Messages};
 use fast_check_source_configs::paths::behind;
 use fast_check_source_configs::tsconfig::Projects;
 use fast_check_source_configs::workspace::{MemberList, listed_members, members_of};
@@ -22,13 +21,15 @@ struct Place<'a> {
 }
 
 // Makes warnings of what is wrong with a package that has no entry point: a member of npm's workspace may be anything.
-fn push_passed(from: &mut Vec<Message>, warnings: &mut Vec<Message>) -> Result<(), AllocError> {
-    for each in from.iter_mut() {
+fn push_passed(from: &mut MessageList, warnings: &mut MessageList) {
+    for each in from.items.iter_mut() {
         each.code = "no-entry-point";
-        each.text
-            .push_str(": this member of the workspace is passed over")?;
+        let why = ": this member of the workspace is passed over";
+        if each.text.push_str(why).is_err() {
+            warnings.lacks = true;
+        }
     }
-    warnings.append(from)
+    warnings.append(from);
 }
 
 impl<'a> Place<'a> {
@@ -36,41 +37,41 @@ impl<'a> Place<'a> {
     fn refuse(
         self,
         alloc: Global,
-        own: &mut Vec<Message>,
+        own: &mut MessageList,
         entries: &mut Entries,
         messages: &mut Messages,
-    ) -> Result<bool, AllocError> {
-        own.append(&mut entries.errors)?;
-        own.append(&mut entries.wrong)?;
-        own.append(&mut entries.passed)?;
+    ) -> bool {
+        own.append(&mut entries.errors);
+        own.append(&mut entries.wrong);
+        own.append(&mut entries.passed);
         if own.is_empty() {
             let why = "no entry point: neither `exports`, nor mod.ts, index.ts or src/index.ts";
-            own.push(Message::of_file(alloc, self.folder, "no-entry-point", why)?)?;
+            own.push(Message::of_file(alloc, self.folder, "no-entry-point", why));
         }
         if self.is_npm && !self.folder.is_empty() {
-            push_passed(own, &mut messages.warnings)?;
-            return Ok(false);
+            push_passed(own, &mut messages.warnings);
+            return false;
         }
-        messages.errors.append(own)?;
-        Ok(true)
+        messages.errors.append(own);
+        true
     }
 
     // Says what is wrong with a package. Answers whether it is one.
     fn tell(
         self,
         alloc: Global,
-        own: &mut Vec<Message>,
+        own: &mut MessageList,
         entries: &mut Entries,
         messages: &mut Messages,
-    ) -> Result<bool, AllocError> {
+    ) -> bool {
         if entries.found.is_empty() {
             return self.refuse(alloc, own, entries, messages);
         }
-        messages.errors.append(own)?;
-        messages.errors.append(&mut entries.errors)?;
-        messages.faults.append(&mut entries.wrong)?;
-        messages.warnings.append(&mut entries.passed)?;
-        Ok(true)
+        messages.errors.append(own);
+        messages.errors.append(&mut entries.errors);
+        messages.faults.append(&mut entries.wrong);
+        messages.warnings.append(&mut entries.passed);
+        true
     }
 
     fn imports(
@@ -164,10 +165,10 @@ impl<'a> Place<'a> {
         out: &mut Vec<Package>,
     ) -> Result<(), AllocError> {
         let alloc = files.alloc();
-        let mut own = Vec::new(alloc);
+        let mut own = MessageList::new(alloc);
         let configs = configs_of(files, self.folder, &mut own)?;
         let mut entries = entry_points(files, projects, self.folder, configs.as_slice())?;
-        if self.tell(alloc, &mut own, &mut entries, messages)? {
+        if self.tell(alloc, &mut own, &mut entries, messages) {
             let made = self.package(files, projects, configs.as_slice(), entries)?;
             out.push(made)?;
         }
