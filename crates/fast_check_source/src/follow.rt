@@ -10,11 +10,11 @@ use fast_check_source_configs::tsconfig::Projects;
 use fast_check_source_files::files::{Files, name_of};
 use fast_check_source_files::messages::{Message, Places};
 use fast_check_source_input::Parsed;
-use fast_check_source_mended::{mended, short_tree};
+use fast_check_source_mended::{mended, short_tree, with_exports};
 use fast_check_source_packages::resolve::{Package, is_relative, resolve};
 use fast_check_source_parser::{ParseError, parse_program};
 use fast_check_source_scopes::with_scopes;
-use fast_check_source_tables::{tables_of, with_exports};
+use fast_check_source_tables::tables_of;
 use fast_check_tables_diagnostics::parsed_source::{MediaType, ParsedSource};
 use fast_check_tables_graph::Module;
 use fast_check_tree_syntax::{SyntaxContext, Tree};
@@ -124,7 +124,7 @@ fn program_of(
 ) -> Result<Tree, AllocError> {
     let short = cut(alloc, tree, text)?;
     let whole = mended(alloc, numbered(alloc, short, is_declaration)?)?;
-    with_exports(alloc, &whole, is_declaration)
+    with_exports(alloc, whole, is_declaration)
 }
 
 fn read_module(

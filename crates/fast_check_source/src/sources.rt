@@ -145,9 +145,7 @@ pub fn sources_of<'a>(alloc: Global, program: Part<'a>) -> Result<Named<'a>, All
             break;
         };
         sources.part(part);
-        for inner in part.parts().iter().rev() {
-            waiting.push(inner.read());
-        }
+        waiting.push_parts(part);
     }
     let Sources { lacks, found, .. } = sources;
     if lacks || waiting.lacks {

@@ -29,9 +29,9 @@ impl<T: Drop> Waiting<T> {
 }
 
 impl<'a> Waiting<Part<'a>> {
-    /// Pushes the parts of a part.
+    /// Pushes the parts of a part, the first one last.
     pub fn push_parts(&mut self, part: Part<'a>) {
-        for inner in part.parts() {
+        for inner in part.parts().iter().rev() {
             self.push(inner.read());
         }
     }

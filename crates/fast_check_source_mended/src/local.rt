@@ -1,11 +1,9 @@
 //! Types that have a name of a body, which no skeleton could say.
-use crate::statements::{push_names, variables_of};
+use crate::statements::variables_of;
 use fast_check_source_heights::Waiting;
+use fast_check_source_references::declared::{BoundNames, declarators, name_of};
 use fast_check_tree_forms_programs::Ident;
-use fast_check_tree_forms_statements::{
-    BlockStmt, ClassDecl, FnDecl, TsEnumDecl, TsInterfaceDecl, TsModuleDecl, TsTypeAliasDecl,
-    UsingDecl, VarDecl, VarDeclarator,
-};
+use fast_check_tree_forms_statements::BlockStmt;
 use fast_check_tree_forms_types::{
     TsGetterSignature, TsMethodSignature, TsPropertySignature, TsQualifiedName, TsSetterSignature,
     TsTypeRef,
@@ -21,36 +19,6 @@ struct Declared<'a> {
     types: BTreeSet<&'a str>,
     // Those in which types may stand.
     spaces: BTreeSet<&'a str>,
-}
-
-// The name of what a statement declares in its own block, if that is no list of variables.
-fn name_of(statement: Part<'_>) -> Option<Part<'_>> {
-    match statement.kind() {
-        Kind::FnDecl => Some(FnDecl::of(statement).ident),
-        Kind::ClassDecl => Some(ClassDecl::of(statement).ident),
-        Kind::TsInterfaceDecl => Some(TsInterfaceDecl::of(statement).id),
-        Kind::TsTypeAliasDecl => Some(TsTypeAliasDecl::of(statement).id),
-        Kind::TsEnumDecl => Some(TsEnumDecl::of(statement).id),
-        Kind::TsModuleDecl => Some(TsModuleDecl::of(statement).id),
-        _ => None,
-    }
-}
-
-// The names of the variables that a statement declares in its own block.
-fn push_variables<'a>(
-    alloc: Global,
-    statement: Part<'a>,
-    out: &mut Vec<Part<'a>>,
-) -> Result<(), AllocError> {
-    let decls = match statement.kind() {
-        Kind::VarDecl => VarDecl::of(statement).decls,
-        Kind::UsingDecl => UsingDecl::of(statement).decls,
-        _ => return Ok(()),
-    };
-    for each in decls.parts() {
-        push_names(alloc, VarDeclarator::of(each.read()).name, out)?;
-    }
-    Ok(())
 }
 
 // The first of the names of which one is made.
@@ -93,6 +61,36 @@ impl<'a> Declared<'a> {
         Ok(())
     }
 
+    // Notes the names of a variable, or of a list of these.
+    fn declare_all(&mut self, alloc: Global, variables: Part<'a>) -> Result<(), AllocError> {
+        let mut names = BoundNames::of(alloc, variables);
+        for _turn in 0..u64::MAX {
+            let Some(name) = names.next() else {
+                break;
+            };
+            self.declare(Kind::VarDecl, name)?;
+        }
+        if names.lacks() {
+            Err(AllocError)
+        } else {
+            Ok(())
+        }
+    }
+
+    // Notes the names that a statement declares in the body.
+    fn declare_statement(&mut self, alloc: Global, statement: Part<'a>) -> Result<(), AllocError> {
+        if let Some(name) = name_of(statement) {
+            self.declare(statement.kind(), name)?;
+        }
+        if let Some(decls) = declarators(statement) {
+            self.declare_all(alloc, decls)?;
+        }
+        for variable in variables_of(alloc, statement)? {
+            self.declare_all(alloc, variable.declarator)?;
+        }
+        Ok(())
+    }
+
     // Whether a part of a type refers to one of them.
     fn has(&self, part: Part<'a>) -> bool {
         match part.kind() {
@@ -114,23 +112,8 @@ impl<'a> Declared<'a> {
 // The names that a body declares.
 fn names_in<'a>(alloc: Global, block: Part<'a>) -> Result<Declared<'a>, AllocError> {
     let mut made = Declared::new(alloc);
-    let mut names = Vec::new(alloc);
     for statement in BlockStmt::of(block).stmts.parts() {
-        let statement = statement.read();
-        if let Some(name) = name_of(statement) {
-            made.declare(statement.kind(), name)?;
-        }
-        push_variables(alloc, statement, &mut names)?;
-        for variable in variables_of(alloc, statement)? {
-            push_names(
-                alloc,
-                VarDeclarator::of(variable.declarator).name,
-                &mut names,
-            )?;
-        }
-    }
-    for name in names {
-        made.declare(Kind::VarDecl, name)?;
+        made.declare_statement(alloc, statement.read())?;
     }
     Ok(made)
 }

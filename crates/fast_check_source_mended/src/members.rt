@@ -1,8 +1,10 @@
 //! Members of classes and objects that others of them bear on: getters beside their setters, and private static members beside others of their names.
 use crate::edits::{Edits, range_of};
-use crate::returns::{asserted, naming};
+use crate::returns::naming;
 use crate::statements::name_tree;
 use fast_check_source_references::functions::type_of_pattern;
+use fast_check_source_references::keys::STATIC;
+use fast_check_source_references::returns::asserted;
 use fast_check_tree_forms_classes::{
     AutoAccessor, ClassMethod, ClassProp, Constructor, Function, Param, TsParamProp,
 };
@@ -12,9 +14,6 @@ use fast_check_tree_forms_types::{TsKeywordType, TsTypeAnn};
 use fast_check_tree_syntax::{Kind, Part, Tree, Word};
 use std::alloc::{AllocError, Global};
 use std::collections::BTreeSet;
-
-/// What stands behind the name of a private static member beside another private one of that name, since the program takes both for one. No name has a blank.
-pub const STATIC: &str = " static";
 
 /// The written text of a node.
 fn written<'a>(text: &'a str, part: Part<'_>) -> &'a str {
@@ -135,6 +134,28 @@ fn is_word_of(type_ann: Part<'_>, value: Part<'_>) -> bool {
     type_ann.kind() == Kind::TsKeywordType && TsKeywordType::of(type_ann).kind.has_word(word)
 }
 
+// Whether a getter has the type of its setter, and another one than the value says by which it names a type.
+fn is_of_setter(
+    alloc: Global,
+    text: &str,
+    getter: Accessor<'_>,
+    members: Part<'_>,
+) -> Result<bool, AllocError> {
+    if getter.inner.kind() != Kind::BlockStmt {
+        return Ok(false);
+    }
+    let Some(value) = naming(alloc, getter.inner)? else {
+        return Ok(false);
+    };
+    let Some(type_ann) = type_of_setter(text, getter, members) else {
+        return Ok(false);
+    };
+    Ok(match asserted(value) {
+        Some(named) => written(text, named) != written(text, type_ann),
+        None => !is_word_of(type_ann, value),
+    })
+}
+
 /// The places of the bodies of those getters that have the type of their setter, and another one than the value says by which they name a type.
 pub fn put_accessors(
     alloc: Global,
@@ -143,23 +164,9 @@ pub fn put_accessors(
     out: &mut BTreeSet<u32>,
 ) -> Result<(), AllocError> {
     for member in members.parts() {
-        let Some(getter) = getter_of(member.read()) else {
-            continue;
-        };
-        if getter.inner.kind() != Kind::BlockStmt {
-            continue;
-        }
-        let Some(value) = naming(alloc, getter.inner)? else {
-            continue;
-        };
-        let Some(type_ann) = type_of_setter(text, getter, members) else {
-            continue;
-        };
-        let is_same = match asserted(value) {
-            Some(named) => written(text, named) == written(text, type_ann),
-            None => is_word_of(type_ann, value),
-        };
-        if !is_same {
+        if let Some(getter) = getter_of(member.read())
+            && is_of_setter(alloc, text, getter, members)?
+        {
             let _ = out.insert(range_of(getter.inner).start.0)?;
         }
     }
@@ -227,22 +234,27 @@ fn property_name(param: Part<'_>) -> Option<&str> {
     }
 }
 
+// Pushes the names of the private members that a member of a class declares, if it is not static.
+fn push_others<'a>(member: Part<'a>, out: &mut BTreeSet<&'a str>) -> Result<(), AllocError> {
+    if member.kind() == Kind::Constructor {
+        for param in Constructor::of(member).params.parts() {
+            if let Some(name) = property_name(param.read()) {
+                let _ = out.insert(name)?;
+            }
+        }
+    } else if let Some((key, is_static)) = private_name(member)
+        && !is_static
+    {
+        let _ = out.insert(IdentName::of(key).sym)?;
+    }
+    Ok(())
+}
+
 // The names of the private members of a class that are not static.
 fn other_names<'a>(alloc: Global, members: Part<'a>) -> Result<BTreeSet<&'a str>, AllocError> {
     let mut names = BTreeSet::new(alloc);
     for member in members.parts() {
-        let member = member.read();
-        if member.kind() == Kind::Constructor {
-            for param in Constructor::of(member).params.parts() {
-                if let Some(name) = property_name(param.read()) {
-                    let _ = names.insert(name)?;
-                }
-            }
-        } else if let Some((key, is_static)) = private_name(member)
-            && !is_static
-        {
-            let _ = names.insert(IdentName::of(key).sym)?;
-        }
+        push_others(member.read(), &mut names)?;
     }
     Ok(names)
 }

@@ -1,8 +1,8 @@
 //! A skeleton by the words of its source.
 use crate::edits::{Edits, edited, range_of};
-use crate::members::STATIC;
-use crate::statements::{name_tree, push_parts};
+use crate::statements::name_tree;
 use fast_check_source_heights::Waiting;
+use fast_check_source_references::keys::STATIC;
 use fast_check_tree_forms_programs::{ExportAll, IdentName, ImportDecl, NamedExport, Str};
 use fast_check_tree_forms_types::TsImportType;
 use fast_check_tree_syntax::{Atom, Kind, Part, Tree};
@@ -53,7 +53,7 @@ fn edits_of(alloc: Global, program: Part<'_>, own: &str) -> Edits {
             Kind::TsImportType => put_source(&mut edits, TsImportType::of(next).arg, own),
             _ => {}
         }
-        push_parts(next, &mut waiting);
+        waiting.push_parts(next);
     }
     edits.lacks |= waiting.lacks;
     edits

@@ -1,11 +1,9 @@
 //! Bodies of functions, cut to what says how they return.
 use crate::edits::{Edits, range_of};
 use crate::local::is_local;
-use crate::statements::{holds_statements, push_parts};
-use fast_check_source_heights::Waiting;
-use fast_check_tree_forms_expressions::{
-    CallExpr, ParenExpr, ThisExpr, TsAsExpr, TsSatisfiesExpr, TsTypeAssertion,
-};
+use fast_check_source_heights::{Waiting, holds_statements};
+use fast_check_source_references::returns::{asserted, inner};
+use fast_check_tree_forms_expressions::{CallExpr, ThisExpr};
 use fast_check_tree_forms_statements::{BlockStmt, EmptyStmt, ExprStmt, ReturnStmt};
 use fast_check_tree_syntax::{Items, Kind, Part, SourcePos, SourceRange, Tree};
 use std::alloc::{AllocError, Global};
@@ -18,29 +16,6 @@ pub struct Body<'a> {
     pub is_generator: bool,
     /// Whether it is the one of a getter that has the type of its setter.
     pub is_of_setter: bool,
-}
-
-// What stands in parentheses, or before `satisfies`.
-fn inner(value: Part<'_>) -> Part<'_> {
-    let mut at = value;
-    for _turn in 0..u64::MAX {
-        at = match at.kind() {
-            Kind::ParenExpr => ParenExpr::of(at).expr,
-            Kind::TsSatisfiesExpr => TsSatisfiesExpr::of(at).expr,
-            _ => break,
-        };
-    }
-    at
-}
-
-/// The type that a value asserts.
-pub fn asserted(value: Part<'_>) -> Option<Part<'_>> {
-    let at = inner(value);
-    match at.kind() {
-        Kind::TsAsExpr => Some(TsAsExpr::of(at).type_ann),
-        Kind::TsTypeAssertion => Some(TsTypeAssertion::of(at).type_ann),
-        _ => None,
-    }
 }
 
 fn names_type(value: Part<'_>) -> bool {
@@ -71,7 +46,7 @@ fn returns<'a>(alloc: Global, block: Part<'a>) -> Result<Vec<Part<'a>>, AllocErr
         if next.kind() == Kind::ReturnStmt {
             found.push(next)?;
         } else if holds_statements(next.kind()) {
-            push_parts(next, &mut waiting);
+            waiting.push_parts(next);
         }
     }
     if waiting.lacks {
@@ -133,24 +108,20 @@ fn short_return(
     ReturnStmt { span, arg }.into_tree(alloc)
 }
 
-// The statements that stay of a body.
-fn short_statements(alloc: Global, body: Body<'_>) -> Result<Items<Tree>, AllocError> {
-    let mut made = Items::new(alloc);
-    if body.has_type {
-        return Ok(made);
-    }
+// Pushes the statements that say how a body returns.
+fn push_short(alloc: Global, body: Body<'_>, out: &mut Items<Tree>) -> Result<(), AllocError> {
     let kept = kept(alloc, body)?;
     let all = returns(alloc, body.block)?;
     for statement in all.iter() {
-        made.push(short_return(alloc, *statement, kept)?)?;
+        out.push(short_return(alloc, *statement, kept)?)?;
     }
     if all.is_empty()
         && let Some(first) = BlockStmt::of(body.block).stmts.parts().first()
     {
         let span = range_of(first.read());
-        made.push(EmptyStmt { span }.into_tree(alloc)?)?;
+        out.push(EmptyStmt { span }.into_tree(alloc)?)?;
     }
-    Ok(made)
+    Ok(())
 }
 
 fn short_block(
@@ -168,7 +139,10 @@ fn short_block(
 }
 
 fn short_body(alloc: Global, body: Body<'_>) -> Result<Tree, AllocError> {
-    let stmts = short_statements(alloc, body)?;
+    let mut stmts = Items::new(alloc);
+    if !body.has_type {
+        push_short(alloc, body, &mut stmts)?;
+    }
     // No text stands in its place.
     let span = SourceRange {
         start: SourcePos(0),

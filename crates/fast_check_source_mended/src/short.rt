@@ -2,7 +2,6 @@
 use crate::edits::{Edits, range_of, with_edits};
 use crate::members::put_accessors;
 use crate::returns::{Body, put_body, put_constructor};
-use crate::statements::push_parts;
 use fast_check_source_heights::Waiting;
 use fast_check_tree_forms_classes::{Class, ClassMethod, Constructor, Function, StaticBlock};
 use fast_check_tree_forms_expressions::{ArrowExpr, GetterProp, ObjectLit, SetterProp};
@@ -102,7 +101,7 @@ pub fn short_tree(alloc: Global, text: &str, tree: &Tree) -> Result<Tree, AllocE
         };
         if next.kind() != Kind::BlockStmt {
             bodies.part(next);
-            push_parts(next, &mut waiting);
+            waiting.push_parts(next);
         }
     }
     if bodies.edits.lacks || waiting.lacks {

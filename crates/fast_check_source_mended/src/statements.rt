@@ -1,69 +1,13 @@
 //! Variables in the blocks of a module's statements, which the module declares, and properties that are assigned to functions under a text.
 use crate::edits::{Edits, hidden, range_of};
-use fast_check_source_heights::Waiting;
+use fast_check_source_heights::{Waiting, holds_statements};
 use fast_check_tree_forms_expressions::{
-    AssignExpr, AssignPat, AssignPatProp, ComputedPropName, MemberExpr, Tpl, TplElement,
+    AssignExpr, ComputedPropName, MemberExpr, Tpl, TplElement,
 };
-use fast_check_tree_forms_programs::{BindingIdent, IdentName, Str};
+use fast_check_tree_forms_programs::{IdentName, Str};
 use fast_check_tree_forms_statements::{ExprStmt, ForInStmt, ForOfStmt, VarDecl, VarDeclarator};
 use fast_check_tree_syntax::{Atom, Items, Kind, Part, SourceRange, SyntaxContext, Tree, Word};
 use std::alloc::{AllocError, Global};
-
-/// Whether a node is a statement, or a part of one, in which statements of the same function may stand.
-pub fn holds_statements(kind: Kind) -> bool {
-    matches!(
-        kind,
-        Kind::List
-            | Kind::BlockStmt
-            | Kind::WithStmt
-            | Kind::LabeledStmt
-            | Kind::IfStmt
-            | Kind::SwitchStmt
-            | Kind::SwitchCase
-            | Kind::TryStmt
-            | Kind::CatchClause
-            | Kind::WhileStmt
-            | Kind::DoWhileStmt
-            | Kind::ForStmt
-            | Kind::ForInStmt
-            | Kind::ForOfStmt
-    )
-}
-
-/// Pushes the parts of a node, the first one last.
-pub fn push_parts<'a>(part: Part<'a>, waiting: &mut Waiting<Part<'a>>) {
-    for inner in part.parts().iter().rev() {
-        waiting.push(inner.read());
-    }
-}
-
-/// Pushes the patterns of the names that a pattern binds.
-pub fn push_names<'a>(
-    alloc: Global,
-    pattern: Part<'a>,
-    out: &mut Vec<Part<'a>>,
-) -> Result<(), AllocError> {
-    let mut waiting = Waiting::new(alloc);
-    waiting.push(pattern);
-    for _turn in 0..u64::MAX {
-        let Some(next) = waiting.pop() else {
-            break;
-        };
-        match next.kind() {
-            Kind::BindingIdent => out.push(BindingIdent::of(next).id)?,
-            Kind::AssignPat => waiting.push(AssignPat::of(next).left),
-            Kind::AssignPatProp => waiting.push(AssignPatProp::of(next).key),
-            Kind::ArrayPat | Kind::ObjectPat | Kind::RestPat | Kind::KeyValuePatProp | Kind::List =>
-                push_parts(next, &mut waiting),
-            _ => {}
-        }
-    }
-    if waiting.lacks {
-        Err(AllocError)
-    } else {
-        Ok(())
-    }
-}
 
 /// A variable of a list behind `var`.
 #[derive(Clone, Copy)]
@@ -128,7 +72,7 @@ pub fn variables_of<'a>(
             }
             push_loop(next, &mut waiting);
         } else if holds_statements(next.kind()) {
-            push_parts(next, &mut waiting);
+            waiting.push_parts(next);
         }
     }
     if waiting.lacks {
@@ -272,7 +216,7 @@ pub fn put_statements(edits: &mut Edits, program: Part<'_>) {
             | Kind::TsModuleDecl
             | Kind::TsNamespaceDecl
             | Kind::TsModuleBlock
-            | Kind::List => push_parts(next, &mut waiting),
+            | Kind::List => waiting.push_parts(next),
             Kind::ExprStmt => put_property(edits, next),
             kind => {
                 if holds_statements(kind) {

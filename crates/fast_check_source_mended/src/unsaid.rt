@@ -1,6 +1,6 @@
 //! Names whose type no skeleton says: those of parameters with a default, which may be left out there, and those in patterns, of which a skeleton has no names.
-use crate::statements::{push_names, push_parts};
 use fast_check_source_heights::Waiting;
+use fast_check_source_references::declared::BoundNames;
 use fast_check_source_references::names::id_of;
 use fast_check_tree_forms_classes::{Constructor, Function, Param, TsParamProp};
 use fast_check_tree_forms_expressions::{
@@ -15,6 +15,8 @@ use std::collections::BTreeMap;
 #[derive(Drop)]
 pub struct Unsaid {
     alloc: Global,
+    // Whether memory ran out for one of them.
+    lacks: bool,
     // Whether an assertion says the type.
     names: BTreeMap<Id, bool>,
 }
@@ -99,8 +101,15 @@ fn push_looks<'a>(look: Look<'a>, waiting: &mut Waiting<Look<'a>>) {
 }
 
 impl Unsaid {
+    fn add_name(&mut self, name: Part<'_>, is_name: bool) -> Result<(), AllocError> {
+        if let Some(id) = id_of(self.alloc, name)? {
+            let _ = self.names.insert(id, is_name)?;
+        }
+        Ok(())
+    }
+
     // The names of a parameter.
-    fn add(&mut self, pattern: Part<'_>) -> Result<(), AllocError> {
+    fn add(&mut self, pattern: Part<'_>) {
         let mut inner = pattern;
         let mut has_default = false;
         if inner.kind() == Kind::AssignPat {
@@ -112,29 +121,42 @@ impl Unsaid {
         }
         let is_name = inner.kind() == Kind::BindingIdent;
         if is_name && !has_default {
-            return Ok(());
+            return;
         }
-        let mut names = Vec::new(self.alloc);
-        push_names(self.alloc, inner, &mut names)?;
-        for name in names {
-            if let Some(id) = id_of(self.alloc, name)? {
-                let _ = self.names.insert(id, is_name)?;
+        let mut names = BoundNames::of(self.alloc, inner);
+        for _turn in 0..u64::MAX {
+            let Some(name) = names.next() else {
+                break;
+            };
+            if self.add_name(name, is_name).is_err() {
+                self.lacks = true;
             }
         }
-        Ok(())
+        self.lacks |= names.lacks();
     }
 
-    fn add_all(&mut self, params: Part<'_>) -> Result<(), AllocError> {
+    fn add_all(&mut self, params: Part<'_>) {
         for param in params.parts() {
-            self.add(pattern_of(param.read()))?;
+            self.add(pattern_of(param.read()));
         }
-        Ok(())
+    }
+
+    // The names of the parameters of what a part is.
+    fn add_of(&mut self, part: Part<'_>) {
+        match part.kind() {
+            Kind::Function => self.add_all(Function::of(part).params),
+            Kind::ArrowExpr => self.add_all(ArrowExpr::of(part).params),
+            Kind::Constructor => self.add_all(Constructor::of(part).params),
+            Kind::SetterProp => self.add(SetterProp::of(part).param),
+            _ => {}
+        }
     }
 
     /// Those of a tree.
     pub fn of(alloc: Global, program: Part<'_>) -> Result<Unsaid, AllocError> {
         let mut unsaid = Unsaid {
             alloc,
+            lacks: false,
             names: BTreeMap::new(alloc),
         };
         let mut waiting = Waiting::new(alloc);
@@ -143,21 +165,15 @@ impl Unsaid {
             let Some(next) = waiting.pop() else {
                 break;
             };
-            match next.kind() {
-                Kind::BlockStmt => continue,
-                Kind::Function => unsaid.add_all(Function::of(next).params)?,
-                Kind::ArrowExpr => unsaid.add_all(ArrowExpr::of(next).params)?,
-                Kind::Constructor => unsaid.add_all(Constructor::of(next).params)?,
-                Kind::SetterProp => unsaid.add(SetterProp::of(next).param)?,
-                _ => {}
+            if next.kind() != Kind::BlockStmt {
+                unsaid.add_of(next);
+                waiting.push_parts(next);
             }
-            push_parts(next, &mut waiting);
         }
-        if waiting.lacks {
-            Err(AllocError)
-        } else {
-            Ok(unsaid)
+        if unsaid.lacks || waiting.lacks {
+            return Err(AllocError);
         }
+        Ok(unsaid)
     }
 
     /// Whether such a name stands in a value.

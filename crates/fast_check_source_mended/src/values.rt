@@ -1,7 +1,7 @@
 //! A tree with its edits.
 use crate::edits::{Edits, edited};
 use crate::members::put_static_names;
-use crate::statements::{push_parts, put_statements};
+use crate::statements::put_statements;
 use crate::unsaid::Unsaid;
 use fast_check_source_heights::Waiting;
 use fast_check_tree_forms_classes::Class;
@@ -58,7 +58,7 @@ fn edits_of_values(alloc: Global, program: Part<'_>) -> Result<Edits, AllocError
         };
         if next.kind() != Kind::BlockStmt {
             values.part(next);
-            push_parts(next, &mut waiting);
+            waiting.push_parts(next);
         }
     }
     let Values { mut edits, .. } = values;

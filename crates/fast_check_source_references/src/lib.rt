@@ -1,9 +1,11 @@
 //! What the public face of a declaration refers to, by its tree.
 #![tactic(auto)]
 
+pub mod declared;
 pub mod dependencies;
 pub mod functions;
+pub mod keys;
 mod members;
 pub mod names;
-mod returns;
+pub mod returns;
 mod values;

@@ -1,18 +1,15 @@
 //! What statements, patterns and parameters bind.
 use crate::scope::{ANY, Meaning, NAMESPACE, ScopeNo, Scopes, TYPE, VALUE};
-use fast_check_source_heights::Waiting;
-use fast_check_tree_forms_classes::{Param, TsParamProp};
-use fast_check_tree_forms_expressions::{
-    ArrayPat, AssignPat, AssignPatProp, ClassExpr, FnExpr, KeyValuePatProp, ObjectPat, RestPat,
-};
+use fast_check_source_heights::{Waiting, holds_statements};
+use fast_check_source_references::declared::BoundNames;
+use fast_check_tree_forms_expressions::{ClassExpr, FnExpr};
 use fast_check_tree_forms_programs::{
-    BindingIdent, ExportDecl, ExportDefaultDecl, Ident, ImportDecl, ImportDefaultSpecifier,
-    ImportNamedSpecifier, ImportStarAsSpecifier, TsImportEqualsDecl,
+    ExportDecl, ExportDefaultDecl, Ident, ImportDecl, ImportDefaultSpecifier, ImportNamedSpecifier,
+    ImportStarAsSpecifier, TsImportEqualsDecl,
 };
 use fast_check_tree_forms_statements::{
-    BlockStmt, CatchClause, ClassDecl, DoWhileStmt, FnDecl, ForInStmt, ForOfStmt, ForStmt, IfStmt,
-    LabeledStmt, SwitchCase, SwitchStmt, TryStmt, TsEnumDecl, TsInterfaceDecl, TsModuleDecl,
-    TsTypeAliasDecl, UsingDecl, VarDecl, VarDeclarator, WhileStmt, WithStmt,
+    ClassDecl, FnDecl, LabeledStmt, TsEnumDecl, TsInterfaceDecl, TsModuleDecl, TsTypeAliasDecl,
+    UsingDecl, VarDecl,
 };
 use fast_check_tree_forms_types::{TsConditionalType, TsInferType, TsTypeParam, TsTypeParamDecl};
 use fast_check_tree_syntax::{Kind, Part, Word};
@@ -24,38 +21,16 @@ fn bind_ident(scopes: &mut Scopes, scope: ScopeNo, ident: Part<'_>, meaning: Mea
     }
 }
 
-// Pushes the patterns within one.
-fn push_inner<'a>(pattern: Part<'a>, waiting: &mut Waiting<Part<'a>>) {
-    let inner = match pattern.kind() {
-        Kind::RestPat => RestPat::of(pattern).arg,
-        Kind::AssignPat => AssignPat::of(pattern).left,
-        Kind::KeyValuePatProp => KeyValuePatProp::of(pattern).value,
-        Kind::AssignPatProp => AssignPatProp::of(pattern).key,
-        Kind::Param => Param::of(pattern).pat,
-        Kind::TsParamProp => TsParamProp::of(pattern).param,
-        Kind::ArrayPat => return waiting.push_parts(ArrayPat::of(pattern).elems),
-        Kind::ObjectPat => return waiting.push_parts(ObjectPat::of(pattern).props),
-        Kind::List => return waiting.push_parts(pattern),
-        _ => return,
-    };
-    waiting.push(inner);
-}
-
 /// Binds the names of a pattern, of a parameter or of a list of these, as values.
 pub fn bind_pattern(scopes: &mut Scopes, scope: ScopeNo, pattern: Part<'_>) {
-    let mut waiting = Waiting::new(scopes.alloc);
-    waiting.push(pattern);
+    let mut names = BoundNames::of(scopes.alloc, pattern);
     for _turn in 0..u64::MAX {
-        let Some(next) = waiting.pop() else {
+        let Some(name) = names.next() else {
             break;
         };
-        if next.kind() == Kind::BindingIdent {
-            bind_ident(scopes, scope, BindingIdent::of(next).id, VALUE);
-        } else {
-            push_inner(next, &mut waiting);
-        }
+        bind_ident(scopes, scope, name, VALUE);
     }
-    scopes.lacks |= waiting.lacks;
+    scopes.lacks |= names.lacks();
 }
 
 /// Binds type parameters.
@@ -101,22 +76,16 @@ pub fn bind_inferred(scopes: &mut Scopes, scope: ScopeNo, ty: Part<'_>) {
     scopes.lacks |= waiting.lacks;
 }
 
-fn bind_declarators(scopes: &mut Scopes, scope: ScopeNo, decls: Part<'_>) {
-    for decl in decls.parts() {
-        bind_pattern(scopes, scope, VarDeclarator::of(decl.read()).name);
-    }
-}
-
 /// Binds the variables of a list, if it is `var`, or if it is not.
 pub fn bind_variables(scopes: &mut Scopes, scope: ScopeNo, part: Part<'_>, vars: bool) {
     match part.kind() {
         Kind::VarDecl => {
             let VarDecl { kind, decls, .. } = VarDecl::of(part);
             if kind.has_word(Word::Var) == vars {
-                bind_declarators(scopes, scope, decls);
+                bind_pattern(scopes, scope, decls);
             }
         }
-        Kind::UsingDecl if !vars => bind_declarators(scopes, scope, UsingDecl::of(part).decls),
+        Kind::UsingDecl if !vars => bind_pattern(scopes, scope, UsingDecl::of(part).decls),
         _ => {}
     }
 }
@@ -174,60 +143,6 @@ pub fn bind_statements(scopes: &mut Scopes, scope: ScopeNo, stmts: Part<'_>) {
     }
 }
 
-// Pushes the statements within one in which a `var` is one of the same function.
-fn push_stmts<'a>(stmt: Part<'a>, waiting: &mut Waiting<Part<'a>>) {
-    let inner = match stmt.kind() {
-        Kind::ExportDecl => ExportDecl::of(stmt).decl,
-        Kind::DoWhileStmt => DoWhileStmt::of(stmt).body,
-        Kind::WhileStmt => WhileStmt::of(stmt).body,
-        Kind::WithStmt => WithStmt::of(stmt).body,
-        Kind::LabeledStmt => LabeledStmt::of(stmt).body,
-        Kind::CatchClause => CatchClause::of(stmt).body,
-        Kind::BlockStmt => return waiting.push_parts(BlockStmt::of(stmt).stmts),
-        Kind::SwitchStmt => return waiting.push_parts(SwitchStmt::of(stmt).cases),
-        Kind::SwitchCase => return waiting.push_parts(SwitchCase::of(stmt).cons),
-        _ => return push_branches(stmt, waiting),
-    };
-    waiting.push(inner);
-}
-
-fn push_branches<'a>(stmt: Part<'a>, waiting: &mut Waiting<Part<'a>>) {
-    match stmt.kind() {
-        Kind::ForStmt => {
-            let ForStmt { init, body, .. } = ForStmt::of(stmt);
-            waiting.push(init);
-            waiting.push(body);
-        }
-        Kind::ForInStmt => {
-            let ForInStmt { left, body, .. } = ForInStmt::of(stmt);
-            waiting.push(left);
-            waiting.push(body);
-        }
-        Kind::ForOfStmt => {
-            let ForOfStmt { left, body, .. } = ForOfStmt::of(stmt);
-            waiting.push(left);
-            waiting.push(body);
-        }
-        Kind::IfStmt => {
-            let IfStmt { cons, alt, .. } = IfStmt::of(stmt);
-            waiting.push(cons);
-            waiting.push(alt);
-        }
-        Kind::TryStmt => {
-            let TryStmt {
-                block,
-                handler,
-                finalizer,
-                ..
-            } = TryStmt::of(stmt);
-            waiting.push(block);
-            waiting.push(handler);
-            waiting.push(finalizer);
-        }
-        _ => {}
-    }
-}
-
 /// Binds each `var` of a statement, however deep in blocks, but not in functions, classes or namespaces.
 pub fn bind_vars(scopes: &mut Scopes, scope: ScopeNo, stmt: Part<'_>) {
     let mut waiting = Waiting::new(scopes.alloc);
@@ -238,8 +153,8 @@ pub fn bind_vars(scopes: &mut Scopes, scope: ScopeNo, stmt: Part<'_>) {
         };
         if next.kind() == Kind::VarDecl {
             bind_variables(scopes, scope, next, true);
-        } else {
-            push_stmts(next, &mut waiting);
+        } else if next.kind() == Kind::ExportDecl || holds_statements(next.kind()) {
+            waiting.push_parts(next);
         }
     }
     scopes.lacks |= waiting.lacks;

@@ -26,7 +26,7 @@ impl<F: Fn(Global, &mut Tokens<'_>, usize, Rule) -> Result<Tree, ParseError>> St
     ) -> Result<Tree, ParseError>
         requires { Nests self.now.expressions.values.types.grammar.depth (F.pre self.now.expressions.values.types.grammar.parse) }
     {
-        let alloc = self.expressions.values.types.grammar.alloc;
+        let alloc = self.alloc();
         let is_abstract = tokens.at.eat_word(Keyword::Abstract);
         tokens.at.expect_word(Keyword::Class)?;
         let made = ClassDecl {
@@ -55,7 +55,7 @@ impl<F: Fn(Global, &mut Tokens<'_>, usize, Rule) -> Result<Tree, ParseError>> St
     ) -> Result<Tree, ParseError>
         requires { Nests self.now.expressions.values.types.grammar.depth (F.pre self.now.expressions.values.types.grammar.parse) }
     {
-        let alloc = self.expressions.values.types.grammar.alloc;
+        let alloc = self.alloc();
         let is_abstract = tokens.at.eat_word(Keyword::Abstract);
         tokens.at.expect_word(Keyword::Class)?;
         let is_named = sees_ident(tokens) && !is_implements(tokens.at);
@@ -79,15 +79,7 @@ impl<F: Fn(Global, &mut Tokens<'_>, usize, Rule) -> Result<Tree, ParseError>> St
     {
         let type_params = self.expressions.values.types.type_params(tokens)?;
         let is_heir = tokens.at.eat_word(Keyword::Extends);
-        let super_class = if is_heir {
-            self.expressions
-                .values
-                .types
-                .grammar
-                .again(tokens, Rule::Heir)?
-        } else {
-            Tree::Absent
-        };
+        let super_class = self.again_if(tokens, is_heir, Rule::Heir)?;
         let super_type_params = if is_heir {
             self.expressions.values.types.type_args(tokens)?
         } else {
@@ -106,7 +98,7 @@ impl<F: Fn(Global, &mut Tokens<'_>, usize, Rule) -> Result<Tree, ParseError>> St
             implements,
             span: tokens.at.from(start),
         };
-        parsed(made.into_tree(self.expressions.values.types.grammar.alloc))
+        parsed(made.into_tree(self.alloc()))
     }
 
     /// A class behind decorators, which may be exported.
@@ -137,7 +129,7 @@ impl<F: Fn(Global, &mut Tokens<'_>, usize, Rule) -> Result<Tree, ParseError>> St
     ) -> Result<Tree, ParseError>
         requires { Nests self.now.expressions.values.types.grammar.depth (F.pre self.now.expressions.values.types.grammar.parse) }
     {
-        let alloc = self.expressions.values.types.grammar.alloc;
+        let alloc = self.alloc();
         let is_default = tokens.at.eat_word(Keyword::Default);
         let at = tokens.at.start();
         if is_default {

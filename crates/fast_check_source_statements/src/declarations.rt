@@ -55,7 +55,7 @@ impl<F: Fn(Global, &mut Tokens<'_>, usize, Rule) -> Result<Tree, ParseError>> St
     fn heir(&self, tokens: &mut Tokens<'_>) -> Result<Tree, ParseError>
         requires { Nests self.now.expressions.values.types.grammar.depth (F.pre self.now.expressions.values.types.grammar.parse) }
     {
-        let alloc = self.expressions.values.types.grammar.alloc;
+        let alloc = self.alloc();
         let start = tokens.at.start();
         let made = TsExprWithTypeArgs {
             expr: member_name(alloc, tokens)?,
@@ -86,7 +86,7 @@ impl<F: Fn(Global, &mut Tokens<'_>, usize, Rule) -> Result<Tree, ParseError>> St
     pub fn interface(&self, tokens: &mut Tokens<'_>, opening: Opening) -> Result<Tree, ParseError>
         requires { Nests self.now.expressions.values.types.grammar.depth (F.pre self.now.expressions.values.types.grammar.parse) }
     {
-        let alloc = self.expressions.values.types.grammar.alloc;
+        let alloc = self.alloc();
         tokens.at.advance();
         let id = ident(alloc, tokens)?;
         let type_params = self.expressions.values.types.type_params(tokens)?;
@@ -111,7 +111,7 @@ impl<F: Fn(Global, &mut Tokens<'_>, usize, Rule) -> Result<Tree, ParseError>> St
     pub fn alias(&self, tokens: &mut Tokens<'_>, opening: Opening) -> Result<Tree, ParseError>
         requires { Nests self.now.expressions.values.types.grammar.depth (F.pre self.now.expressions.values.types.grammar.parse) }
     {
-        let alloc = self.expressions.values.types.grammar.alloc;
+        let alloc = self.alloc();
         tokens.at.advance();
         let id = ident(alloc, tokens)?;
         let type_params = self.expressions.values.types.type_params(tokens)?;
@@ -132,7 +132,7 @@ impl<F: Fn(Global, &mut Tokens<'_>, usize, Rule) -> Result<Tree, ParseError>> St
     pub fn function(&self, tokens: &mut Tokens<'_>, opening: Opening) -> Result<Tree, ParseError>
         requires { Nests self.now.expressions.values.types.grammar.depth (F.pre self.now.expressions.values.types.grammar.parse) }
     {
-        let alloc = self.expressions.values.types.grammar.alloc;
+        let alloc = self.alloc();
         let is_async = tokens.at.eat_word(Keyword::Async);
         tokens.at.expect_word(Keyword::Function)?;
         let marks = Marks {
@@ -158,22 +158,15 @@ impl<F: Fn(Global, &mut Tokens<'_>, usize, Rule) -> Result<Tree, ParseError>> St
     {
         let start = tokens.at.start();
         let (name, definite) = self.expressions.values.types.variable(tokens)?;
-        let init = if tokens.at.eat(TokenKind::Assign) {
-            self.expressions
-                .values
-                .types
-                .grammar
-                .again(tokens, Rule::Assigned)?
-        } else {
-            Tree::Absent
-        };
+        let has_value = tokens.at.eat(TokenKind::Assign);
+        let init = self.again_if(tokens, has_value, Rule::Assigned)?;
         let made = VarDeclarator {
             span: tokens.at.from(start),
             name,
             init,
             definite,
         };
-        parsed(made.into_tree(self.expressions.values.types.grammar.alloc))
+        parsed(made.into_tree(self.alloc()))
     }
 
     fn declarators(&self, tokens: &mut Tokens<'_>) -> Result<Tree, ParseError>
@@ -215,7 +208,7 @@ impl<F: Fn(Global, &mut Tokens<'_>, usize, Rule) -> Result<Tree, ParseError>> St
             declare: opening.declare,
             decls,
         };
-        parsed(made.into_tree(self.expressions.values.types.grammar.alloc))
+        parsed(made.into_tree(self.alloc()))
     }
 
     /// `using a = b` or `await using a = b`
@@ -238,14 +231,14 @@ impl<F: Fn(Global, &mut Tokens<'_>, usize, Rule) -> Result<Tree, ParseError>> St
             is_await,
             decls,
         };
-        parsed(made.into_tree(self.expressions.values.types.grammar.alloc))
+        parsed(made.into_tree(self.alloc()))
     }
 
     /// `const enum A { B = 1 }`
     pub fn enumeration(&self, tokens: &mut Tokens<'_>, opening: Opening) -> Result<Tree, ParseError>
         requires { Nests self.now.expressions.values.types.grammar.depth (F.pre self.now.expressions.values.types.grammar.parse) }
     {
-        let alloc = self.expressions.values.types.grammar.alloc;
+        let alloc = self.alloc();
         let is_const = tokens.at.eat_word(Keyword::Const);
         tokens.at.expect_word(Keyword::Enum)?;
         let id = ident(alloc, tokens)?;
@@ -269,18 +262,11 @@ impl<F: Fn(Global, &mut Tokens<'_>, usize, Rule) -> Result<Tree, ParseError>> St
     pub fn enum_member(&self, tokens: &mut Tokens<'_>) -> Result<Tree, ParseError>
         requires { Nests self.now.expressions.values.types.grammar.depth (F.pre self.now.expressions.values.types.grammar.parse) }
     {
-        let alloc = self.expressions.values.types.grammar.alloc;
+        let alloc = self.alloc();
         let start = tokens.at.start();
         let id = enum_key(alloc, tokens)?;
-        let init = if tokens.at.eat(TokenKind::Assign) {
-            self.expressions
-                .values
-                .types
-                .grammar
-                .again(tokens, Rule::Assigned)?
-        } else {
-            Tree::Absent
-        };
+        let has_value = tokens.at.eat(TokenKind::Assign);
+        let init = self.again_if(tokens, has_value, Rule::Assigned)?;
         let span = tokens.at.from(start);
         parsed(TsEnumMember { span, id, init }.into_tree(alloc))
     }

@@ -34,7 +34,7 @@ impl<F: Fn(Global, &mut Tokens<'_>, usize, Rule) -> Result<Tree, ParseError>> St
     pub fn export(&self, tokens: &mut Tokens<'_>) -> Result<Tree, ParseError>
         requires { Nests self.now.expressions.values.types.grammar.depth (F.pre self.now.expressions.values.types.grammar.parse) }
     {
-        let alloc = self.expressions.values.types.grammar.alloc;
+        let alloc = self.alloc();
         let start = tokens.at.start();
         tokens.at.advance();
         let type_only = sees_type_list(tokens.at);
@@ -56,7 +56,7 @@ impl<F: Fn(Global, &mut Tokens<'_>, usize, Rule) -> Result<Tree, ParseError>> St
     fn worded_export(&self, tokens: &mut Tokens<'_>, start: SourcePos) -> Result<Tree, ParseError>
         requires { Nests self.now.expressions.values.types.grammar.depth (F.pre self.now.expressions.values.types.grammar.parse) }
     {
-        let alloc = self.expressions.values.types.grammar.alloc;
+        let alloc = self.alloc();
         match tokens.at.word() {
             Keyword::Default => self.default_export(tokens, start),
             Keyword::As => {
@@ -90,7 +90,7 @@ impl<F: Fn(Global, &mut Tokens<'_>, usize, Rule) -> Result<Tree, ParseError>> St
         }
         let decl = self.declaration(tokens, Opening { start: at, declare })?;
         let span = tokens.at.from(start);
-        parsed(ExportDecl { span, decl }.into_tree(self.expressions.values.types.grammar.alloc))
+        parsed(ExportDecl { span, decl }.into_tree(self.alloc()))
     }
 
     // `= a` behind `export`.
@@ -98,23 +98,16 @@ impl<F: Fn(Global, &mut Tokens<'_>, usize, Rule) -> Result<Tree, ParseError>> St
         requires { Nests self.now.expressions.values.types.grammar.depth (F.pre self.now.expressions.values.types.grammar.parse) }
     {
         tokens.at.advance();
-        let expr = self
-            .expressions
-            .values
-            .types
-            .grammar
-            .again(tokens, Rule::Assigned)?;
+        let expr = self.again(tokens, Rule::Assigned)?;
         tokens.at.end_statement()?;
         let span = tokens.at.from(start);
-        parsed(TsExportAssignment { span, expr }.into_tree(
-            self.expressions.values.types.grammar.alloc,
-        ))
+        parsed(TsExportAssignment { span, expr }.into_tree(self.alloc()))
     }
 
     fn default_export(&self, tokens: &mut Tokens<'_>, start: SourcePos) -> Result<Tree, ParseError>
         requires { Nests self.now.expressions.values.types.grammar.depth (F.pre self.now.expressions.values.types.grammar.parse) }
     {
-        let alloc = self.expressions.values.types.grammar.alloc;
+        let alloc = self.alloc();
         tokens.at.advance();
         let at = tokens.at.start();
         let decl = if is_function(tokens.at) {
@@ -132,12 +125,7 @@ impl<F: Fn(Global, &mut Tokens<'_>, usize, Rule) -> Result<Tree, ParseError>> St
             };
             self.interface(tokens, opening)?
         } else {
-            let expr = self
-                .expressions
-                .values
-                .types
-                .grammar
-                .again(tokens, Rule::Assigned)?;
+            let expr = self.again(tokens, Rule::Assigned)?;
             tokens.at.end_statement()?;
             let span = tokens.at.from(start);
             return parsed(ExportDefaultExpr { span, expr }.into_tree(alloc));

@@ -62,12 +62,7 @@ impl<F: Fn(Global, &mut Tokens<'_>, usize, Rule) -> Result<Tree, ParseError>> St
         requires { Nests self.now.expressions.values.types.grammar.depth (F.pre self.now.expressions.values.types.grammar.parse) }
     {
         tokens.at.expect(TokenKind::LParen)?;
-        let found = self
-            .expressions
-            .values
-            .types
-            .grammar
-            .again(tokens, Rule::Expression)?;
+        let found = self.again(tokens, Rule::Expression)?;
         tokens.at.expect(TokenKind::RParen)?;
         Ok(found)
     }
@@ -76,26 +71,16 @@ impl<F: Fn(Global, &mut Tokens<'_>, usize, Rule) -> Result<Tree, ParseError>> St
     fn simple(&self, tokens: &mut Tokens<'_>) -> Result<Tree, ParseError>
         requires { Nests self.now.expressions.values.types.grammar.depth (F.pre self.now.expressions.values.types.grammar.parse) }
     {
-        let alloc = self.expressions.values.types.grammar.alloc;
+        let alloc = self.alloc();
         let start = tokens.at.start();
         if sees_ident(tokens) && tokens.at.second().is(TokenKind::Colon) {
             let label = ident(alloc, tokens)?;
             tokens.at.advance();
-            let body = self
-                .expressions
-                .values
-                .types
-                .grammar
-                .again(tokens, Rule::Statement)?;
+            let body = self.again(tokens, Rule::Statement)?;
             let span = tokens.at.from(start);
             return parsed(LabeledStmt { span, label, body }.into_tree(alloc));
         }
-        let expr = self
-            .expressions
-            .values
-            .types
-            .grammar
-            .again(tokens, Rule::Expression)?;
+        let expr = self.again(tokens, Rule::Expression)?;
         tokens.at.end_statement()?;
         let span = tokens.at.from(start);
         parsed(ExprStmt { span, expr }.into_tree(alloc))
@@ -106,18 +91,11 @@ impl<F: Fn(Global, &mut Tokens<'_>, usize, Rule) -> Result<Tree, ParseError>> St
     {
         let start = tokens.at.start();
         tokens.at.advance();
-        let arg = if has_no_value(tokens.at) {
-            Tree::Absent
-        } else {
-            self.expressions
-                .values
-                .types
-                .grammar
-                .again(tokens, Rule::Expression)?
-        };
+        let has_value = !has_no_value(tokens.at);
+        let arg = self.again_if(tokens, has_value, Rule::Expression)?;
         tokens.at.end_statement()?;
         let span = tokens.at.from(start);
-        parsed(ReturnStmt { span, arg }.into_tree(self.expressions.values.types.grammar.alloc))
+        parsed(ReturnStmt { span, arg }.into_tree(self.alloc()))
     }
 
     fn thrown(&self, tokens: &mut Tokens<'_>) -> Result<Tree, ParseError>
@@ -128,22 +106,17 @@ impl<F: Fn(Global, &mut Tokens<'_>, usize, Rule) -> Result<Tree, ParseError>> St
         if tokens.at.newline() {
             return Err(tokens.at.refuse());
         }
-        let arg = self
-            .expressions
-            .values
-            .types
-            .grammar
-            .again(tokens, Rule::Expression)?;
+        let arg = self.again(tokens, Rule::Expression)?;
         tokens.at.end_statement()?;
         let span = tokens.at.from(start);
-        parsed(ThrowStmt { span, arg }.into_tree(self.expressions.values.types.grammar.alloc))
+        parsed(ThrowStmt { span, arg }.into_tree(self.alloc()))
     }
 
     // The label behind `break` or `continue`, and what ends the statement.
     fn label(&self, tokens: &mut Tokens<'_>) -> Result<Tree, ParseError> {
         tokens.at.advance();
         let label = if sees_ident(tokens) && !tokens.at.newline() {
-            ident(self.expressions.values.types.grammar.alloc, tokens)?
+            ident(self.alloc(), tokens)?
         } else {
             Tree::Absent
         };
@@ -155,14 +128,14 @@ impl<F: Fn(Global, &mut Tokens<'_>, usize, Rule) -> Result<Tree, ParseError>> St
         let start = tokens.at.start();
         let label = self.label(tokens)?;
         let span = tokens.at.from(start);
-        parsed(BreakStmt { span, label }.into_tree(self.expressions.values.types.grammar.alloc))
+        parsed(BreakStmt { span, label }.into_tree(self.alloc()))
     }
 
     fn continued(&self, tokens: &mut Tokens<'_>) -> Result<Tree, ParseError> {
         let start = tokens.at.start();
         let label = self.label(tokens)?;
         let span = tokens.at.from(start);
-        parsed(ContinueStmt { span, label }.into_tree(self.expressions.values.types.grammar.alloc))
+        parsed(ContinueStmt { span, label }.into_tree(self.alloc()))
     }
 
     fn debugger(&self, tokens: &mut Tokens<'_>) -> Result<Tree, ParseError> {
@@ -170,7 +143,7 @@ impl<F: Fn(Global, &mut Tokens<'_>, usize, Rule) -> Result<Tree, ParseError>> St
         tokens.at.advance();
         tokens.at.end_statement()?;
         let span = tokens.at.from(start);
-        parsed(DebuggerStmt { span }.into_tree(self.expressions.values.types.grammar.alloc))
+        parsed(DebuggerStmt { span }.into_tree(self.alloc()))
     }
 
     // `if (a) b`, from its word to what stands before `else`.
@@ -180,12 +153,7 @@ impl<F: Fn(Global, &mut Tokens<'_>, usize, Rule) -> Result<Tree, ParseError>> St
         let start = tokens.at.start();
         tokens.at.advance();
         let test = self.in_parens(tokens)?;
-        let cons = self
-            .expressions
-            .values
-            .types
-            .grammar
-            .again(tokens, Rule::Statement)?;
+        let cons = self.again(tokens, Rule::Statement)?;
         Ok(Choice { start, test, cons })
     }
 
@@ -193,7 +161,7 @@ impl<F: Fn(Global, &mut Tokens<'_>, usize, Rule) -> Result<Tree, ParseError>> St
     fn choice(&self, tokens: &mut Tokens<'_>) -> Result<Tree, ParseError>
         requires { Nests self.now.expressions.values.types.grammar.depth (F.pre self.now.expressions.values.types.grammar.parse) }
     {
-        let alloc = self.expressions.values.types.grammar.alloc;
+        let alloc = self.alloc();
         let mut choices: Vec<Choice> = Vec::new(alloc);
         choices.push(self.branch(tokens)?)?;
         let mut alt = Tree::Absent;
@@ -202,12 +170,7 @@ impl<F: Fn(Global, &mut Tokens<'_>, usize, Rule) -> Result<Tree, ParseError>> St
                 break;
             }
             if !tokens.at.is_word(Keyword::If) {
-                alt = self
-                    .expressions
-                    .values
-                    .types
-                    .grammar
-                    .again(tokens, Rule::Statement)?;
+                alt = self.again(tokens, Rule::Statement)?;
                 break;
             }
             tokens.link()?;
@@ -233,14 +196,9 @@ impl<F: Fn(Global, &mut Tokens<'_>, usize, Rule) -> Result<Tree, ParseError>> St
         let start = tokens.at.start();
         tokens.at.advance();
         let obj = self.in_parens(tokens)?;
-        let body = self
-            .expressions
-            .values
-            .types
-            .grammar
-            .again(tokens, Rule::Statement)?;
+        let body = self.again(tokens, Rule::Statement)?;
         let span = tokens.at.from(start);
-        parsed(WithStmt { span, obj, body }.into_tree(self.expressions.values.types.grammar.alloc))
+        parsed(WithStmt { span, obj, body }.into_tree(self.alloc()))
     }
 
     fn switch(&self, tokens: &mut Tokens<'_>) -> Result<Tree, ParseError>
@@ -263,23 +221,18 @@ impl<F: Fn(Global, &mut Tokens<'_>, usize, Rule) -> Result<Tree, ParseError>> St
             discriminant,
             cases: Tree::list(cases),
         };
-        parsed(made.into_tree(self.expressions.values.types.grammar.alloc))
+        parsed(made.into_tree(self.alloc()))
     }
 
     fn case(&self, tokens: &mut Tokens<'_>) -> Result<Tree, ParseError>
         requires { Nests self.now.expressions.values.types.grammar.depth (F.pre self.now.expressions.values.types.grammar.parse) }
     {
         let start = tokens.at.start();
-        let test = if tokens.at.eat_word(Keyword::Default) {
-            Tree::Absent
-        } else {
+        let is_default = tokens.at.eat_word(Keyword::Default);
+        if !is_default {
             tokens.at.expect_word(Keyword::Case)?;
-            self.expressions
-                .values
-                .types
-                .grammar
-                .again(tokens, Rule::Expression)?
-        };
+        }
+        let test = self.again_if(tokens, !is_default, Rule::Expression)?;
         tokens.at.expect(TokenKind::Colon)?;
         let mut cons = self.none();
         for _turn in 0..tokens.at.left() {
@@ -289,20 +242,14 @@ impl<F: Fn(Global, &mut Tokens<'_>, usize, Rule) -> Result<Tree, ParseError>> St
             {
                 break;
             }
-            cons.push(
-                self.expressions
-                    .values
-                    .types
-                    .grammar
-                    .again(tokens, Rule::Statement)?,
-            )?;
+            cons.push(self.again(tokens, Rule::Statement)?)?;
         }
         let made = SwitchCase {
             span: tokens.at.from(start),
             test,
             cons: Tree::list(cons),
         };
-        parsed(made.into_tree(self.expressions.values.types.grammar.alloc))
+        parsed(made.into_tree(self.alloc()))
     }
 
     fn attempt(&self, tokens: &mut Tokens<'_>) -> Result<Tree, ParseError>
@@ -332,7 +279,7 @@ impl<F: Fn(Global, &mut Tokens<'_>, usize, Rule) -> Result<Tree, ParseError>> St
             handler,
             finalizer,
         };
-        parsed(made.into_tree(self.expressions.values.types.grammar.alloc))
+        parsed(made.into_tree(self.alloc()))
     }
 
     // `catch (a) {}`
@@ -350,8 +297,6 @@ impl<F: Fn(Global, &mut Tokens<'_>, usize, Rule) -> Result<Tree, ParseError>> St
         };
         let body = self.block(tokens)?;
         let span = tokens.at.from(start);
-        parsed(CatchClause { span, param, body }.into_tree(
-            self.expressions.values.types.grammar.alloc,
-        ))
+        parsed(CatchClause { span, param, body }.into_tree(self.alloc()))
     }
 }

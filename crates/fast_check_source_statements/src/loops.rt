@@ -31,16 +31,9 @@ impl<F: Fn(Global, &mut Tokens<'_>, usize, Rule) -> Result<Tree, ParseError>> St
         let start = tokens.at.start();
         tokens.at.advance();
         let test = self.in_parens(tokens)?;
-        let body = self
-            .expressions
-            .values
-            .types
-            .grammar
-            .again(tokens, Rule::Statement)?;
+        let body = self.again(tokens, Rule::Statement)?;
         let span = tokens.at.from(start);
-        parsed(WhileStmt { span, test, body }.into_tree(
-            self.expressions.values.types.grammar.alloc,
-        ))
+        parsed(WhileStmt { span, test, body }.into_tree(self.alloc()))
     }
 
     pub fn do_loop(&self, tokens: &mut Tokens<'_>) -> Result<Tree, ParseError>
@@ -48,19 +41,12 @@ impl<F: Fn(Global, &mut Tokens<'_>, usize, Rule) -> Result<Tree, ParseError>> St
     {
         let start = tokens.at.start();
         tokens.at.advance();
-        let body = self
-            .expressions
-            .values
-            .types
-            .grammar
-            .again(tokens, Rule::Statement)?;
+        let body = self.again(tokens, Rule::Statement)?;
         tokens.at.expect_word(Keyword::While)?;
         let test = self.in_parens(tokens)?;
         let _ = tokens.at.eat(TokenKind::Semicolon);
         let span = tokens.at.from(start);
-        parsed(DoWhileStmt { span, test, body }.into_tree(
-            self.expressions.values.types.grammar.alloc,
-        ))
+        parsed(DoWhileStmt { span, test, body }.into_tree(self.alloc()))
     }
 
     // What a `for` declares, or its first expression.
@@ -152,7 +138,7 @@ impl<F: Fn(Global, &mut Tokens<'_>, usize, Rule) -> Result<Tree, ParseError>> St
     ) -> Result<Tree, ParseError>
         requires { Nests self.now.expressions.values.types.grammar.depth (F.pre self.now.expressions.values.types.grammar.parse) }
     {
-        let alloc = self.expressions.values.types.grammar.alloc;
+        let alloc = self.alloc();
         let is_of = tokens.at.is_word(Keyword::Of);
         tokens.at.advance();
         let rule = if is_of {
@@ -160,14 +146,9 @@ impl<F: Fn(Global, &mut Tokens<'_>, usize, Rule) -> Result<Tree, ParseError>> St
         } else {
             Rule::Expression
         };
-        let right = self.expressions.values.types.grammar.again(tokens, rule)?;
+        let right = self.again(tokens, rule)?;
         tokens.at.expect(TokenKind::RParen)?;
-        let body = self
-            .expressions
-            .values
-            .types
-            .grammar
-            .again(tokens, Rule::Statement)?;
+        let body = self.again(tokens, Rule::Statement)?;
         let span = tokens.at.from(start);
         let made = if is_of {
             ForOfStmt {
@@ -200,32 +181,13 @@ impl<F: Fn(Global, &mut Tokens<'_>, usize, Rule) -> Result<Tree, ParseError>> St
         requires { Nests self.now.expressions.values.types.grammar.depth (F.pre self.now.expressions.values.types.grammar.parse) }
     {
         tokens.at.expect(TokenKind::Semicolon)?;
-        let test = if tokens.at.is(TokenKind::Semicolon) {
-            Tree::Absent
-        } else {
-            self.expressions
-                .values
-                .types
-                .grammar
-                .again(tokens, Rule::Expression)?
-        };
+        let has_test = !tokens.at.is(TokenKind::Semicolon);
+        let test = self.again_if(tokens, has_test, Rule::Expression)?;
         tokens.at.expect(TokenKind::Semicolon)?;
-        let update = if tokens.at.is(TokenKind::RParen) {
-            Tree::Absent
-        } else {
-            self.expressions
-                .values
-                .types
-                .grammar
-                .again(tokens, Rule::Expression)?
-        };
+        let has_update = !tokens.at.is(TokenKind::RParen);
+        let update = self.again_if(tokens, has_update, Rule::Expression)?;
         tokens.at.expect(TokenKind::RParen)?;
-        let body = self
-            .expressions
-            .values
-            .types
-            .grammar
-            .again(tokens, Rule::Statement)?;
+        let body = self.again(tokens, Rule::Statement)?;
         let made = ForStmt {
             span: tokens.at.from(start),
             init,
@@ -233,6 +195,6 @@ impl<F: Fn(Global, &mut Tokens<'_>, usize, Rule) -> Result<Tree, ParseError>> St
             update,
             body,
         };
-        parsed(made.into_tree(self.expressions.values.types.grammar.alloc))
+        parsed(made.into_tree(self.alloc()))
     }
 }

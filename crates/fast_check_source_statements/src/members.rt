@@ -162,7 +162,7 @@ impl<F: Fn(Global, &mut Tokens<'_>, usize, Rule) -> Result<Tree, ParseError>> St
         let is_generator = tokens.at.eat(TokenKind::Star);
         let is_private = tokens.at.is(TokenKind::PrivateName);
         let key = if is_private {
-            private_name(self.expressions.values.types.grammar.alloc, tokens)?
+            private_name(self.alloc(), tokens)?
         } else {
             self.expressions.values.types.prop_name(tokens)?
         };
@@ -191,15 +191,10 @@ impl<F: Fn(Global, &mut Tokens<'_>, usize, Rule) -> Result<Tree, ParseError>> St
         let start = tokens.at.start();
         tokens.at.advance();
         let outer = enter_function(tokens, PLAIN);
-        let body = self
-            .expressions
-            .values
-            .types
-            .grammar
-            .again(tokens, Rule::Body)?;
+        let body = self.again(tokens, Rule::Body)?;
         let _ = tokens.at.enter(outer);
         let span = tokens.at.from(start);
-        parsed(StaticBlock { span, body }.into_tree(self.expressions.values.types.grammar.alloc))
+        parsed(StaticBlock { span, body }.into_tree(self.alloc()))
     }
 
     fn method(
@@ -211,7 +206,7 @@ impl<F: Fn(Global, &mut Tokens<'_>, usize, Rule) -> Result<Tree, ParseError>> St
     ) -> Result<Tree, ParseError>
         requires { Nests self.now.expressions.values.types.grammar.depth (F.pre self.now.expressions.values.types.grammar.parse) }
     {
-        let alloc = self.expressions.values.types.grammar.alloc;
+        let alloc = self.alloc();
         let Member {
             start,
             decorators,
@@ -263,22 +258,13 @@ impl<F: Fn(Global, &mut Tokens<'_>, usize, Rule) -> Result<Tree, ParseError>> St
     fn field(&self, tokens: &mut Tokens<'_>, member: Member) -> Result<Tree, ParseError>
         requires { Nests self.now.expressions.values.types.grammar.depth (F.pre self.now.expressions.values.types.grammar.parse) }
     {
-        let alloc = self.expressions.values.types.grammar.alloc;
+        let alloc = self.alloc();
         let definite = !member.optional && !tokens.at.newline() && tokens.at.eat(TokenKind::Not);
         let type_ann = self.expressions.values.types.annotation(tokens)?;
-        let value = if tokens.at.eat(TokenKind::Assign) {
-            let outer = enter_function(tokens, PLAIN);
-            let value = self
-                .expressions
-                .values
-                .types
-                .grammar
-                .again(tokens, Rule::Assigned)?;
-            let _ = tokens.at.enter(outer);
-            value
-        } else {
-            Tree::Absent
-        };
+        let has_value = tokens.at.eat(TokenKind::Assign);
+        let outer = enter_function(tokens, PLAIN);
+        let value = self.again_if(tokens, has_value, Rule::Assigned)?;
+        let _ = tokens.at.enter(outer);
         tokens.at.end_statement()?;
         if member.marks.accessor {
             auto_accessor(alloc, tokens, member, type_ann, value, definite)
@@ -297,7 +283,7 @@ impl<F: Fn(Global, &mut Tokens<'_>, usize, Rule) -> Result<Tree, ParseError>> St
     ) -> Result<Tree, ParseError>
         requires { Nests self.now.expressions.values.types.grammar.depth (F.pre self.now.expressions.values.types.grammar.parse) }
     {
-        let alloc = self.expressions.values.types.grammar.alloc;
+        let alloc = self.alloc();
         let key = ident_name(alloc, tokens)?;
         let outer = enter_function(tokens, PLAIN);
         tokens.at.expect(TokenKind::LParen)?;
@@ -308,11 +294,7 @@ impl<F: Fn(Global, &mut Tokens<'_>, usize, Rule) -> Result<Tree, ParseError>> St
             TokenKind::RParen,
         )?;
         let body = if tokens.at.is(TokenKind::LBrace) {
-            self.expressions
-                .values
-                .types
-                .grammar
-                .again(tokens, Rule::Body)?
+            self.again(tokens, Rule::Body)?
         } else {
             tokens.at.end_statement()?;
             Tree::Absent
@@ -334,7 +316,7 @@ impl<F: Fn(Global, &mut Tokens<'_>, usize, Rule) -> Result<Tree, ParseError>> St
     pub fn constructor_param(&self, tokens: &mut Tokens<'_>) -> Result<Tree, ParseError>
         requires { Nests self.now.expressions.values.types.grammar.depth (F.pre self.now.expressions.values.types.grammar.parse) }
     {
-        let alloc = self.expressions.values.types.grammar.alloc;
+        let alloc = self.alloc();
         let start = tokens.at.start();
         let decorators = self.expressions.values.decorators(tokens)?;
         let marks = param_modifiers(tokens);

@@ -23,14 +23,14 @@ impl<F: Fn(Global, &mut Tokens<'_>, usize, Rule) -> Result<Tree, ParseError>> St
         tokens.at.expect(TokenKind::LBrace)?;
         let body = self.up_to_brace(tokens, Rule::Item)?;
         let span = tokens.at.from(start);
-        parsed(TsModuleBlock { span, body }.into_tree(self.expressions.values.types.grammar.alloc))
+        parsed(TsModuleBlock { span, body }.into_tree(self.alloc()))
     }
 
     // `.b.c { .. }`, `{ .. }`, or nothing where that may be, behind the name of a namespace.
     fn namespace_body(&self, tokens: &mut Tokens<'_>, may_end: bool) -> Result<Tree, ParseError>
         requires { Nests self.now.expressions.values.types.grammar.depth (F.pre self.now.expressions.values.types.grammar.parse) }
     {
-        let alloc = self.expressions.values.types.grammar.alloc;
+        let alloc = self.alloc();
         let mut names: Vec<Inner> = Vec::new(alloc);
         for _turn in 0..tokens.at.left() {
             if !tokens.at.eat(TokenKind::Dot) {
@@ -65,7 +65,7 @@ impl<F: Fn(Global, &mut Tokens<'_>, usize, Rule) -> Result<Tree, ParseError>> St
     pub fn namespace(&self, tokens: &mut Tokens<'_>, opening: Opening) -> Result<Tree, ParseError>
         requires { Nests self.now.expressions.values.types.grammar.depth (F.pre self.now.expressions.values.types.grammar.parse) }
     {
-        let alloc = self.expressions.values.types.grammar.alloc;
+        let alloc = self.alloc();
         let global = tokens.at.is_word(Keyword::Global);
         let namespace = tokens.at.is_word(Keyword::Namespace);
         if !global {

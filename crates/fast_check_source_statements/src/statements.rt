@@ -93,12 +93,39 @@ fn is_import_value(at: Cursor<'_>) -> bool {
 }
 
 impl<F: Fn(Global, &mut Tokens<'_>, usize, Rule) -> Result<Tree, ParseError>> Statements<F> {
+    pub fn alloc(&self) -> Global {
+        self.expressions.values.types.grammar.alloc
+    }
+
+    /// The tree of a nested rule.
+    pub fn again(&self, tokens: &mut Tokens<'_>, rule: Rule) -> Result<Tree, ParseError>
+        requires { Nests self.now.expressions.values.types.grammar.depth (F.pre self.now.expressions.values.types.grammar.parse) }
+    {
+        self.expressions.values.types.grammar.again(tokens, rule)
+    }
+
+    /// The tree of a nested rule where there is one.
+    pub fn again_if(
+        &self,
+        tokens: &mut Tokens<'_>,
+        is_there: bool,
+        rule: Rule,
+    ) -> Result<Tree, ParseError>
+        requires { Nests self.now.expressions.values.types.grammar.depth (F.pre self.now.expressions.values.types.grammar.parse) }
+    {
+        if is_there {
+            self.again(tokens, rule)
+        } else {
+            Ok(Tree::Absent)
+        }
+    }
+
     /// An item of a module or of a namespace.
     pub fn item(&self, tokens: &mut Tokens<'_>) -> Result<Tree, ParseError>
         requires { Nests self.now.expressions.values.types.grammar.depth (F.pre self.now.expressions.values.types.grammar.parse) }
     {
         if tokens.at.is_word(Keyword::Import) && !is_import_value(tokens.at) {
-            return import(self.expressions.values.types.grammar.alloc, tokens);
+            return import(self.alloc(), tokens);
         }
         if tokens.at.is_word(Keyword::Export) {
             return self.export(tokens);
@@ -151,7 +178,7 @@ impl<F: Fn(Global, &mut Tokens<'_>, usize, Rule) -> Result<Tree, ParseError>> St
     }
 
     pub fn none(&self) -> Items<Tree> {
-        Items::new(self.expressions.values.types.grammar.alloc)
+        Items::new(self.alloc())
     }
 
     /// The items of a rule up to a `}`, which is passed.
@@ -163,7 +190,7 @@ impl<F: Fn(Global, &mut Tokens<'_>, usize, Rule) -> Result<Tree, ParseError>> St
             if tokens.at.is(TokenKind::RBrace) {
                 break;
             }
-            items.push(self.expressions.values.types.grammar.again(tokens, rule)?)?;
+            items.push(self.again(tokens, rule)?)?;
         }
         tokens.at.expect(TokenKind::RBrace)?;
         Ok(Tree::list(items))
@@ -181,13 +208,13 @@ impl<F: Fn(Global, &mut Tokens<'_>, usize, Rule) -> Result<Tree, ParseError>> St
             ctxt: SyntaxContext(0),
             stmts,
         };
-        parsed(made.into_tree(self.expressions.values.types.grammar.alloc))
+        parsed(made.into_tree(self.alloc()))
     }
 
     /// A lone `;`.
     pub fn empty(&self, tokens: &mut Tokens<'_>) -> Result<Tree, ParseError> {
         let span = tokens.at.here();
         tokens.at.advance();
-        parsed(EmptyStmt { span }.into_tree(self.expressions.values.types.grammar.alloc))
+        parsed(EmptyStmt { span }.into_tree(self.alloc()))
     }
 }

@@ -139,10 +139,6 @@ impl Draft {
     }
 }
 
-fn copied(alloc: Global, text: &str) -> Result<String, AllocError> {
-    String::from_str(alloc, text)
-}
-
 impl Tables {
     /// With the symbol of the module alone.
     pub fn new(alloc: Global) -> Result<Tables, AllocError> {
@@ -158,20 +154,16 @@ impl Tables {
         })
     }
 
-    pub fn dependencies(&self) -> Dependencies {
-        Dependencies::new(self.alloc)
-    }
-
     /// A name behind those from the module down to a symbol.
     pub fn qualified(&self, parent: SymbolNo, name: &str) -> Result<String, AllocError> {
         let before = match self.drafts.get(parent.0) {
             Some(found) => match &found.qualified {
                 Some(before) => before.as_str(),
-                None => return copied(self.alloc, name),
+                None => return String::from_str(self.alloc, name),
             },
-            None => return copied(self.alloc, name),
+            None => return String::from_str(self.alloc, name),
         };
-        let mut made = copied(self.alloc, before)?;
+        let mut made = String::from_str(self.alloc, before)?;
         made.push_str(".")?;
         made.push_str(name)?;
         Ok(made)
@@ -196,7 +188,7 @@ impl Tables {
     // A new symbol of a name, qualified by its parent's.
     fn new_named(&mut self, parent: SymbolNo, name: &str) -> Result<SymbolNo, AllocError> {
         let qualified = self.qualified(parent, name)?;
-        let name = copied(self.alloc, name)?;
+        let name = String::from_str(self.alloc, name)?;
         self.push(parent, Some(name), Some(qualified))
     }
 
@@ -235,10 +227,6 @@ impl Tables {
         self.made(symbol)
     }
 
-    pub fn find(&self, id: &Id) -> Option<SymbolNo> {
-        self.by_name.get(id).copied()
-    }
-
     fn bind_name(&mut self, id: &Id, symbol: SymbolNo) -> Result<(), AllocError> {
         if self.by_name.get(id).is_none() {
             self.names.push(id.clone()?)?;
@@ -259,7 +247,7 @@ impl Tables {
 
     /// The symbol of a name, which is made at its first declaration.
     pub fn symbol_of(&mut self, id: &Id, parent: SymbolNo) -> SymbolNo {
-        if let Some(found) = self.find(id) {
+        if let Some(found) = self.by_name.get(id).copied() {
             return found;
         }
         let symbol = self.symbol_for(id, parent);

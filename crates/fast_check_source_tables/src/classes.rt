@@ -1,229 +1,19 @@
 //! Members of classes and interfaces. Static ones are exports of their class.
 use crate::builder::{Binds, Declaration, Flags, PLAIN, SymbolNo, Tables, Target};
 use fast_check_source_references::dependencies::Dependencies;
-use fast_check_source_references::names::{computed_of, key_name, nothing, text_of};
-use fast_check_tree_forms_classes::{
-    AutoAccessor, Class, ClassMethod, ClassProp, Constructor, Function, TsIndexSignature,
-    TsParamProp,
-};
+use fast_check_source_references::keys::{Member, Signature, member_key, member_of, signature_of};
+use fast_check_source_references::names::{computed_of, text_of};
+use fast_check_tree_forms_classes::{Class, Constructor, TsParamProp};
 use fast_check_tree_forms_expressions::AssignPat;
 use fast_check_tree_forms_programs::BindingIdent;
 use fast_check_tree_forms_statements::{TsInterfaceBody, TsInterfaceDecl};
-use fast_check_tree_forms_types::{
-    TsCallSignatureDecl, TsConstructSignatureDecl, TsGetterSignature, TsMethodSignature,
-    TsPropertySignature, TsSetterSignature,
-};
-use fast_check_tree_syntax::{Atom, Kind, Part, SourceRange, Word};
+use fast_check_tree_syntax::{Atom, Kind, Part, Word};
 use std::alloc::AllocError;
 
 const MEMBER_FLAGS: Flags = Flags {
     is_member: true,
     ..PLAIN
 };
-
-// The end of a name by which the program keeps two private static members apart. No name that is written has a blank.
-const STATIC: &str = " static";
-
-// What is read of a member of a class.
-#[derive(Clone, Copy)]
-struct Member<'a> {
-    span: SourceRange,
-    // Absent where it has none.
-    key: Part<'a>,
-    is_static: bool,
-    is_private: bool,
-    body: Option<bool>,
-}
-
-// What is read of a member of an interface.
-#[derive(Clone, Copy)]
-struct Signature<'a> {
-    span: SourceRange,
-    name: Option<&'a str>,
-    // The key, if it is computed.
-    computed: Option<Part<'a>>,
-}
-
-fn without_mark(name: &str) -> &str {
-    match name.strip_suffix(STATIC) {
-        Some(name) => name,
-        None => name,
-    }
-}
-
-// The name of a member, of which only a name that is written as one may have the mark.
-fn member_key(key: Part<'_>) -> Option<&str> {
-    let name = key_name(key)?;
-    if key.kind() == Kind::IdentName {
-        Some(without_mark(name))
-    } else {
-        Some(name)
-    }
-}
-
-fn is_private(accessibility: Part<'_>) -> bool {
-    accessibility.has_word(Word::Private)
-}
-
-// A member that has a symbol.
-fn member_of(member: Part<'_>) -> Option<Member<'_>> {
-    match member.kind() {
-        Kind::Constructor => {
-            let Constructor {
-                span,
-                key,
-                body,
-                accessibility,
-                ..
-            } = Constructor::of(member);
-            Some(Member {
-                span,
-                key,
-                is_static: false,
-                is_private: is_private(accessibility),
-                body: Some(!body.is_absent()),
-            })
-        }
-        Kind::ClassMethod => {
-            let ClassMethod {
-                span,
-                key,
-                function,
-                kind,
-                is_static,
-                accessibility,
-                ..
-            } = ClassMethod::of(member);
-            let has_body = !Function::of(function).body.is_absent();
-            Some(Member {
-                span,
-                key,
-                is_static,
-                is_private: is_private(accessibility),
-                body: if kind.has_word(Word::Method) {
-                    Some(has_body)
-                } else {
-                    None
-                },
-            })
-        }
-        Kind::ClassProp => {
-            let ClassProp {
-                span,
-                key,
-                is_static,
-                accessibility,
-                ..
-            } = ClassProp::of(member);
-            Some(Member {
-                span,
-                key,
-                is_static,
-                is_private: is_private(accessibility),
-                body: None,
-            })
-        }
-        Kind::AutoAccessor => {
-            let AutoAccessor {
-                span,
-                key,
-                is_static,
-                accessibility,
-                ..
-            } = AutoAccessor::of(member);
-            if key.kind() == Kind::PrivateName {
-                return None;
-            }
-            Some(Member {
-                span,
-                key,
-                is_static,
-                is_private: is_private(accessibility),
-                body: None,
-            })
-        }
-        Kind::TsIndexSignature => {
-            let TsIndexSignature {
-                span,
-                is_static,
-                ..
-            } = TsIndexSignature::of(member);
-            Some(Member {
-                span,
-                key: nothing(member),
-                is_static,
-                is_private: false,
-                body: None,
-            })
-        }
-        _ => None,
-    }
-}
-
-fn keyed<'a>(span: SourceRange, key: Part<'a>, computed: bool) -> Signature<'a> {
-    let name = match key.kind() {
-        Kind::Str | Kind::Number | Kind::BigInt => Some(text_of(key)),
-        Kind::Ident if !computed => Some(text_of(key)),
-        _ => None,
-    };
-    Signature {
-        span,
-        name,
-        computed: if computed { Some(key) } else { None },
-    }
-}
-
-fn unnamed<'a>(span: SourceRange) -> Signature<'a> {
-    Signature {
-        span,
-        name: None,
-        computed: None,
-    }
-}
-
-fn signature_of(member: Part<'_>) -> Signature<'_> {
-    match member.kind() {
-        Kind::TsPropertySignature => {
-            let TsPropertySignature {
-                span,
-                key,
-                computed,
-                ..
-            } = TsPropertySignature::of(member);
-            keyed(span, key, computed)
-        }
-        Kind::TsGetterSignature => {
-            let TsGetterSignature {
-                span,
-                key,
-                computed,
-                ..
-            } = TsGetterSignature::of(member);
-            keyed(span, key, computed)
-        }
-        Kind::TsSetterSignature => {
-            let TsSetterSignature {
-                span,
-                key,
-                computed,
-                ..
-            } = TsSetterSignature::of(member);
-            keyed(span, key, computed)
-        }
-        Kind::TsMethodSignature => {
-            let TsMethodSignature {
-                span,
-                key,
-                computed,
-                ..
-            } = TsMethodSignature::of(member);
-            keyed(span, key, computed)
-        }
-        Kind::TsCallSignatureDecl => unnamed(TsCallSignatureDecl::of(member).span),
-        Kind::TsConstructSignatureDecl => unnamed(TsConstructSignatureDecl::of(member).span),
-        _ => unnamed(TsIndexSignature::of(member).span),
-    }
-}
 
 impl Tables {
     fn owner_name(&self, owner: SymbolNo) -> Result<String, AllocError> {
@@ -316,7 +106,7 @@ impl Tables {
         if found.is_private {
             self.mark_private(symbol);
         }
-        let mut dependencies = self.dependencies();
+        let mut dependencies = Dependencies::new(self.alloc);
         if let Some(expr) = computed_of(found.key) {
             dependencies.value(expr);
         }
@@ -350,10 +140,10 @@ impl Tables {
         }
         let name = text_of(BindingIdent::of(pattern).id);
         let symbol = self.member_symbol(owner, Some(name), false, ".prototype.");
-        if is_private(accessibility) {
+        if accessibility.has_word(Word::Private) {
             self.mark_private(symbol);
         }
-        let mut dependencies = self.dependencies();
+        let mut dependencies = Dependencies::new(self.alloc);
         dependencies.parameter(param);
         self.define(symbol, span, Binds::Both, MEMBER_FLAGS, dependencies);
     }
@@ -399,7 +189,7 @@ impl Tables {
                 computed,
             } = signature_of(member);
             let symbol = self.member_symbol(owner, name, false, ".");
-            let mut dependencies = self.dependencies();
+            let mut dependencies = Dependencies::new(self.alloc);
             if let Some(key) = computed {
                 dependencies.value(key);
             }

@@ -2,98 +2,18 @@
 use crate::builder::{Binds, Declaration, Flags, PLAIN, SymbolNo, Tables, Target};
 use crate::items::{Task, Way};
 use fast_check_source_heights::Waiting;
+use fast_check_source_references::declared::{declarators, push_bound};
+use fast_check_source_references::dependencies::Dependencies;
 use fast_check_source_references::functions::type_of_pattern;
-use fast_check_source_references::names::{id_of, text_of};
+use fast_check_source_references::names::text_of;
 use fast_check_tree_forms_classes::{Class, Function};
-use fast_check_tree_forms_expressions::{
-    ArrayPat, AssignPat, AssignPatProp, KeyValuePatProp, ObjectPat, ParenExpr, RestPat,
-};
-use fast_check_tree_forms_programs::BindingIdent;
+use fast_check_tree_forms_expressions::ParenExpr;
 use fast_check_tree_forms_statements::{
     ClassDecl, FnDecl, TsEnumDecl, TsEnumMember, TsInterfaceDecl, TsModuleBlock, TsModuleDecl,
     TsNamespaceDecl, TsTypeAliasDecl, UsingDecl, VarDecl, VarDeclarator,
 };
 use fast_check_tree_syntax::{Atom, Id, Kind, Part, SourceRange, Word};
-use std::alloc::{AllocError, Global};
-
-// Pushes the patterns within one, the first one last.
-fn push_inner<'a>(pattern: Part<'a>, waiting: &mut Waiting<Part<'a>>) {
-    let inner = match pattern.kind() {
-        Kind::RestPat => RestPat::of(pattern).arg,
-        Kind::AssignPat => AssignPat::of(pattern).left,
-        Kind::KeyValuePatProp => KeyValuePatProp::of(pattern).value,
-        Kind::AssignPatProp => AssignPatProp::of(pattern).key,
-        Kind::ArrayPat => return push_reversed(ArrayPat::of(pattern).elems, waiting),
-        Kind::ObjectPat => return push_reversed(ObjectPat::of(pattern).props, waiting),
-        _ => return,
-    };
-    waiting.push(inner);
-}
-
-fn push_reversed<'a>(list: Part<'a>, waiting: &mut Waiting<Part<'a>>) {
-    for part in list.parts().iter().rev() {
-        waiting.push(part.read());
-    }
-}
-
-/// Pushes the names that a pattern binds.
-pub fn push_bound(alloc: Global, pattern: Part<'_>, out: &mut Vec<Id>) -> Result<(), AllocError> {
-    let mut waiting = Waiting::new(alloc);
-    waiting.push(pattern);
-    for _turn in 0..u64::MAX {
-        let Some(next) = waiting.pop() else {
-            break;
-        };
-        if next.kind() == Kind::BindingIdent {
-            if let Some(id) = id_of(alloc, BindingIdent::of(next).id)? {
-                out.push(id)?;
-            }
-        } else {
-            push_inner(next, &mut waiting);
-        }
-    }
-    if waiting.lacks {
-        Err(AllocError)
-    } else {
-        Ok(())
-    }
-}
-
-fn declarators(decl: Part<'_>) -> Option<Part<'_>> {
-    match decl.kind() {
-        Kind::VarDecl => Some(VarDecl::of(decl).decls),
-        Kind::UsingDecl => Some(UsingDecl::of(decl).decls),
-        _ => None,
-    }
-}
-
-// The name that a declaration has, where it is no list of variables.
-fn name_of(decl: Part<'_>) -> Option<Part<'_>> {
-    match decl.kind() {
-        Kind::FnDecl => Some(FnDecl::of(decl).ident),
-        Kind::ClassDecl => Some(ClassDecl::of(decl).ident),
-        Kind::TsInterfaceDecl => Some(TsInterfaceDecl::of(decl).id),
-        Kind::TsTypeAliasDecl => Some(TsTypeAliasDecl::of(decl).id),
-        Kind::TsEnumDecl => Some(TsEnumDecl::of(decl).id),
-        Kind::TsModuleDecl => Some(TsModuleDecl::of(decl).id),
-        _ => None,
-    }
-}
-
-/// The names that a declaration declares.
-pub fn declared_names(alloc: Global, decl: Part<'_>) -> Result<Vec<Id>, AllocError> {
-    let mut names = Vec::new(alloc);
-    if let Some(decls) = declarators(decl) {
-        for each in decls.parts() {
-            push_bound(alloc, VarDeclarator::of(each.read()).name, &mut names)?;
-        }
-    } else if let Some(name) = name_of(decl)
-        && let Some(id) = id_of(alloc, name)?
-    {
-        names.push(id)?;
-    }
-    Ok(names)
-}
+use std::alloc::AllocError;
 
 fn is_function_value(value: Part<'_>) -> bool {
     let mut at = value;
@@ -162,7 +82,7 @@ impl Tables {
         } = VarDeclarator::of(declarator);
         let type_ann = type_of_pattern(name);
         let symbol = self.symbol_of(id, setting.parent);
-        let mut dependencies = self.dependencies();
+        let mut dependencies = Dependencies::new(self.alloc);
         dependencies.type_or_value(type_ann, init);
         self.define(symbol, span, Binds::Value, setting.flags(), dependencies);
         if type_ann.is_absent() && is_const && is_function_value(init) {
@@ -171,7 +91,8 @@ impl Tables {
         symbol
     }
 
-    fn variables(
+    /// The variables of a list, whose symbols are added to those that were made.
+    pub fn variables(
         &mut self,
         decl: Part<'_>,
         setting: Setting,
@@ -201,7 +122,7 @@ impl Tables {
         flags: Flags,
     ) -> SymbolNo {
         let symbol = self.symbol_or_default(ident, parent);
-        let mut dependencies = self.dependencies();
+        let mut dependencies = Dependencies::new(self.alloc);
         dependencies.function(function);
         let has_body = !Function::of(function).body.is_absent();
         let flags = Flags {
@@ -239,28 +160,17 @@ impl Tables {
             implements,
             ..
         } = Class::of(class);
-        let mut dependencies = self.dependencies();
+        let mut dependencies = Dependencies::new(self.alloc);
         dependencies.written(type_params);
         dependencies.value(super_class);
         dependencies.written(super_type_params);
         dependencies.heritage(implements);
-        let place = match self.drafts.get(symbol.0) {
-            Some(draft) => draft.declarations.len(),
-            None => 0,
-        };
-        let nothing = self.dependencies();
+        self.class_members(symbol, class, setting.is_ambient, &mut dependencies);
         let flags = Flags {
             is_class: true,
             ..flags
         };
-        self.define(symbol, range, Binds::Both, flags, nothing);
-        self.class_members(symbol, class, setting.is_ambient, &mut dependencies);
-        self.lacks |= dependencies.lacks;
-        if let Some(draft) = self.drafts.get_mut(symbol.0)
-            && let Some(declaration) = draft.declarations.get_mut(place)
-        {
-            declaration.target = Target::Definition(flags, dependencies);
-        }
+        self.define(symbol, range, Binds::Both, flags, dependencies);
         symbol
     }
 
@@ -279,7 +189,7 @@ impl Tables {
             ..
         } = TsInterfaceDecl::of(interface);
         let symbol = self.symbol_or_default(id, parent);
-        let mut dependencies = self.dependencies();
+        let mut dependencies = Dependencies::new(self.alloc);
         dependencies.written(type_params);
         dependencies.heritage(extends);
         self.define(symbol, range, Binds::Type, flags, dependencies);
@@ -296,7 +206,7 @@ impl Tables {
             ..
         } = TsTypeAliasDecl::of(alias);
         let symbol = self.symbol_or_default(id, setting.parent);
-        let mut dependencies = self.dependencies();
+        let mut dependencies = Dependencies::new(self.alloc);
         dependencies.written(type_params);
         dependencies.written(type_ann);
         self.define(
@@ -316,7 +226,7 @@ impl Tables {
             return Ok(());
         }
         let made = self.push_named(owner, name.as_str());
-        let nothing = self.dependencies();
+        let nothing = Dependencies::new(self.alloc);
         self.define(made, span, Binds::Both, PLAIN, nothing);
         if let Some(draft) = self.drafts.get_mut(made.0) {
             draft.of_enum = Some(owner);
@@ -334,7 +244,7 @@ impl Tables {
             ..
         } = TsEnumDecl::of(decl);
         let symbol = self.symbol_or_default(id, setting.parent);
-        let mut dependencies = self.dependencies();
+        let mut dependencies = Dependencies::new(self.alloc);
         for member in members.parts() {
             dependencies.written(TsEnumMember::of(member.read()).init);
         }
@@ -375,7 +285,7 @@ impl Tables {
             is_ts_namespace: true,
             ..setting.flags()
         };
-        let nothing = self.dependencies();
+        let nothing = Dependencies::new(self.alloc);
         self.define(symbol, setting.range(span), Binds::Both, flags, nothing);
         waiting.push(Task {
             part: body,
@@ -412,7 +322,7 @@ impl Tables {
             has_export_keyword: true,
             ..PLAIN
         };
-        let nothing = self.dependencies();
+        let nothing = Dependencies::new(self.alloc);
         self.define(inner, span, Binds::Both, flags, nothing);
         self.export(symbol, &name.0, inner);
         waiting.push(Task {
@@ -444,8 +354,8 @@ impl Tables {
         self.class(ident, class, setting.range(span), inner, flags)
     }
 
-    // A declaration that is no list of variables, with the symbol that it declares.
-    fn single<'a>(
+    /// A declaration that is no list of variables, with the symbol that it declares.
+    pub fn single<'a>(
         &mut self,
         decl: Part<'a>,
         setting: Setting,
@@ -471,21 +381,5 @@ impl Tables {
             Kind::TsModuleDecl => self.namespace(decl, setting, waiting),
             _ => None,
         }
-    }
-
-    /// A declaration, with the symbols that it declares.
-    pub fn declaration<'a>(
-        &mut self,
-        decl: Part<'a>,
-        setting: Setting,
-        waiting: &mut Waiting<Task<'a>>,
-    ) -> Result<Vec<SymbolNo>, AllocError> {
-        let mut made = Vec::new(self.alloc);
-        if matches!(decl.kind(), Kind::VarDecl | Kind::UsingDecl) {
-            self.variables(decl, setting, &mut made)?;
-        } else if let Some(symbol) = self.single(decl, setting, waiting) {
-            made.push(symbol)?;
-        }
-        Ok(made)
     }
 }

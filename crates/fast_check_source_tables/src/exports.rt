@@ -1,6 +1,7 @@
 //! Imports and exports.
 use crate::builder::{Binds, Flags, PLAIN, SymbolNo, Tables, Target};
 use crate::declarations::Setting;
+use fast_check_source_references::dependencies::Dependencies;
 use fast_check_source_references::names::{entity_chain, id_of, text_of};
 use fast_check_tables_symbols::{FileDepName, ReExportAllNode};
 use fast_check_tree_forms_expressions::{ClassExpr, FnExpr};
@@ -11,10 +12,6 @@ use fast_check_tree_forms_programs::{
 };
 use fast_check_tree_syntax::{Atom, Id, Kind, Part, SourceRange, SyntaxContext};
 use std::alloc::{AllocError, Global};
-
-fn source_of(part: Part<'_>) -> &str {
-    Str::of(part).value
-}
 
 fn named(alloc: Global, name: &str) -> Result<FileDepName, AllocError> {
     Ok(FileDepName::Name(String::from_str(alloc, name)?))
@@ -66,7 +63,7 @@ impl Tables {
             let (name, span, local) = imported(self.alloc, specifier.read())?;
             if let Some(id) = id_of(self.alloc, local)? {
                 let symbol = self.symbol_of(&id, parent);
-                let target = file(self.alloc, source_of(src), name)?;
+                let target = file(self.alloc, Str::of(src).value, name)?;
                 self.alias(symbol, span, target);
             }
         }
@@ -106,7 +103,7 @@ impl Tables {
     ) -> Result<(), AllocError> {
         if specifier.kind() == Kind::ExportNamespaceSpecifier {
             let ExportNamespaceSpecifier { span, name } = ExportNamespaceSpecifier::of(specifier);
-            let target = file(self.alloc, source_of(src), FileDepName::Star)?;
+            let target = file(self.alloc, Str::of(src).value, FileDepName::Star)?;
             return self.export_name(name, span, target, parent);
         }
         if specifier.kind() != Kind::ExportNamedSpecifier {
@@ -122,7 +119,7 @@ impl Tables {
             self.local_target(orig)?
         } else {
             let name = named(self.alloc, text_of(orig))?;
-            file(self.alloc, source_of(src), name)?
+            file(self.alloc, Str::of(src).value, name)?
         };
         let shown = if exported.is_absent() { orig } else { exported };
         self.export_name(shown, span, target, parent)
@@ -142,7 +139,7 @@ impl Tables {
 
     pub fn export_all(&mut self, decl: Part<'_>) -> Result<(), AllocError> {
         let ExportAll { span, src, .. } = ExportAll::of(decl);
-        let specifier = String::from_str(self.alloc, source_of(src))?;
+        let specifier = String::from_str(self.alloc, Str::of(src).value)?;
         self.re_exports.push(ReExportAllNode {
             range: span,
             specifier,
@@ -152,7 +149,7 @@ impl Tables {
 
     fn equals_target(&self, module_ref: Part<'_>) -> Result<Target, AllocError> {
         if module_ref.kind() == Kind::TsExternalModuleRef {
-            let source = source_of(TsExternalModuleRef::of(module_ref).expr);
+            let source = Str::of(TsExternalModuleRef::of(module_ref).expr).value;
             return file(self.alloc, source, FileDepName::Star);
         }
         let chain = entity_chain(self.alloc, module_ref)?;
@@ -222,7 +219,7 @@ impl Tables {
                     is_default_class_expr: expr.kind() == Kind::ClassExpr,
                     ..PLAIN
                 };
-                let mut dependencies = self.dependencies();
+                let mut dependencies = Dependencies::new(self.alloc);
                 dependencies.value(expr);
                 self.define(symbol, span, Binds::Both, flags, dependencies);
             }

@@ -2,15 +2,16 @@
 ghost use Rattle.std.specs.Prelude.{◌≡◌, ◌≤◌, IfOk, []};
 
 use crate::builder::{Binds, Declaration, Draft, Flags, MODULE, SymbolNo, Tables, Target};
+use fast_check_source_heights::Waiting;
 use fast_check_source_references::dependencies::{Dependencies, Dependency, Space};
 use fast_check_tables_symbols::{
     ModuleTables, ReferenceNamespace, Symbol, SymbolDecl, SymbolDeclKind, SymbolDecls, SymbolDep,
     SymbolExports, SymbolId, SymbolNode, SymbolNodeDep,
 };
 use fast_check_tree_forms_programs::{Module, Script};
-use fast_check_tree_syntax::{Id, Kind, Tree};
+use fast_check_tree_syntax::{Atom, Id, Kind, Part, Tree};
 use std::alloc::{AllocError, Global};
-use std::collections::{BTreeMap, BTreeSet};
+use std::collections::BTreeMap;
 
 fn number(symbol: SymbolNo) -> SymbolId
     ensures { symbol.0 ≤ 4294967295 → result.0 ≡ symbol.0 }
@@ -124,34 +125,48 @@ fn is_class_itself(draft: &Draft) -> bool {
     })
 }
 
-// Whether each symbol is a class, whose interface of the same name adds members to it, or an alias of one.
-fn classes_of(
+// Notes that a symbol is an alias of another one.
+fn add_alias(
+    alloc: Global,
+    aliases: &mut BTreeMap<usize, Vec<usize>>,
+    target: usize,
+    place: usize,
+) -> Result<(), AllocError> {
+    if let Some(found) = aliases.get_mut(&target) {
+        found.push(place)?;
+        return Ok(());
+    }
+    let mut first = Vec::new(alloc);
+    first.push(place)?;
+    let _ = aliases.insert(target, first)?;
+    Ok(())
+}
+
+// The aliases of each symbol.
+fn aliases_of(
     alloc: Global,
     drafts: &[Draft],
     by_name: &BTreeMap<Id, SymbolNo>,
-) -> Result<Vec<bool>, AllocError> {
-    let mut aliases: BTreeMap<usize, Vec<usize>> = BTreeMap::new(alloc);
-    let mut waiting: Vec<usize> = Vec::new(alloc);
-    let mut classes = Vec::new(alloc);
+) -> Result<BTreeMap<usize, Vec<usize>>, AllocError> {
+    let mut aliases = BTreeMap::new(alloc);
     for (place, draft) in drafts.iter().enumerate() {
-        classes.push(false)?;
-        if is_class_itself(draft) {
-            waiting.push(place)?;
-        }
         for declaration in draft.declarations.iter() {
             if let Target::Name(id) = &declaration.target
                 && let Some(target) = by_name.get(id).copied()
             {
-                if let Some(found) = aliases.get_mut(&target.0) {
-                    found.push(place)?;
-                } else {
-                    let mut first = Vec::new(alloc);
-                    first.push(place)?;
-                    let _ = aliases.insert(target.0, first)?;
-                }
+                add_alias(alloc, &mut aliases, target.0, place)?;
             }
         }
     }
+    Ok(aliases)
+}
+
+// Marks what waits as classes, with all aliases.
+fn mark_classes(
+    waiting: &mut Waiting<usize>,
+    aliases: &BTreeMap<usize, Vec<usize>>,
+    classes: &mut Vec<bool>,
+) {
     for _turn in 0..u64::MAX {
         let Some(place) = waiting.pop() else {
             break;
@@ -164,11 +179,44 @@ fn classes_of(
         }
         if let Some(more) = aliases.get(&place) {
             for each in more.iter() {
-                waiting.push(*each)?;
+                waiting.push(*each);
             }
         }
     }
-    Ok(classes)
+}
+
+// Whether each symbol is a class, whose interface of the same name adds members to it, or an alias of one.
+fn classes_of(
+    alloc: Global,
+    drafts: &[Draft],
+    by_name: &BTreeMap<Id, SymbolNo>,
+) -> Result<Vec<bool>, AllocError> {
+    let aliases = aliases_of(alloc, drafts, by_name)?;
+    let mut waiting = Waiting::new(alloc);
+    let mut classes = Vec::new(alloc);
+    for (place, draft) in drafts.iter().enumerate() {
+        classes.push(false)?;
+        if is_class_itself(draft) {
+            waiting.push(place);
+        }
+    }
+    mark_classes(&mut waiting, &aliases, &mut classes);
+    if waiting.lacks {
+        Err(AllocError)
+    } else {
+        Ok(classes)
+    }
+}
+
+// What the blocks of an enum refer to.
+fn blocks_of(alloc: Global, draft: &Draft) -> Result<Dependencies, AllocError> {
+    let mut all = Dependencies::new(alloc);
+    for declaration in draft.declarations.iter() {
+        if let Target::Definition(_, own) = &declaration.target {
+            add_copies(alloc, &mut all, own)?;
+        }
+    }
+    Ok(all)
 }
 
 // What the blocks of each enum refer to: whoever asks for a member has all of them.
@@ -176,23 +224,14 @@ fn enum_dependencies(
     alloc: Global,
     drafts: &[Draft],
 ) -> Result<BTreeMap<usize, Dependencies>, AllocError> {
-    let mut enums = BTreeSet::new(alloc);
-    for draft in drafts.iter() {
-        if let Some(found) = draft.of_enum {
-            let _ = enums.insert(found.0)?;
-        }
-    }
     let mut made = BTreeMap::new(alloc);
-    for place in enums.iter() {
-        let mut all = Dependencies::new(alloc);
-        if let Some(draft) = drafts.get(*place) {
-            for declaration in draft.declarations.iter() {
-                if let Target::Definition(_, own) = &declaration.target {
-                    add_copies(alloc, &mut all, own)?;
-                }
-            }
+    for draft in drafts.iter() {
+        if let Some(found) = draft.of_enum
+            && !made.contains_key(&found.0)
+            && let Some(owner) = drafts.get(found.0)
+        {
+            let _ = made.insert(found.0, blocks_of(alloc, owner)?)?;
         }
-        let _ = made.insert(*place, all)?;
     }
     Ok(made)
 }
@@ -248,6 +287,60 @@ fn kind_of(
     })
 }
 
+fn decl_of(
+    alloc: Global,
+    declaration: Declaration,
+    has_overloads: bool,
+    bindings: &Bindings,
+    shared: Option<&Dependencies>,
+) -> Result<SymbolDecl, AllocError> {
+    let Declaration {
+        range,
+        binds,
+        body,
+        target,
+    } = declaration;
+    let kind = kind_of(alloc, target, bindings, shared)?;
+    Ok(SymbolDecl {
+        range,
+        value: binds != Binds::Type,
+        type_: binds != Binds::Value,
+        has_overloads: body.is_some() && has_overloads,
+        has_body: body == Some(true),
+        kind,
+    })
+}
+
+fn decls_of(
+    alloc: Global,
+    declarations: Vec<Declaration>,
+    bindings: &Bindings,
+    shared: Option<&Dependencies>,
+) -> Result<SymbolDecls, AllocError> {
+    let functions = declarations.iter().filter(|it| it.body.is_some()).count();
+    let mut decls = Vec::with_capacity(alloc, declarations.len())?;
+    for declaration in declarations {
+        decls.push(decl_of(alloc, declaration, functions > 1, bindings, shared)?)?;
+    }
+    SymbolDecls::new(alloc, decls)
+}
+
+fn exports_of(alloc: Global, drafted: &[(Atom, SymbolNo)]) -> Result<SymbolExports, AllocError> {
+    let mut exports = SymbolExports::new(alloc);
+    for (name, symbol) in drafted {
+        exports.put(String::from_str(alloc, name.as_str())?, number(*symbol))?;
+    }
+    Ok(exports)
+}
+
+fn numbers_of(alloc: Global, symbols: &[SymbolNo]) -> Result<Vec<SymbolId>, AllocError> {
+    let mut numbers = Vec::with_capacity(alloc, symbols.len())?;
+    for symbol in symbols {
+        numbers.push(number(*symbol))?;
+    }
+    Ok(numbers)
+}
+
 fn finished(
     alloc: Global,
     no: usize,
@@ -260,37 +353,14 @@ fn finished(
         name,
         qualified,
         is_private,
-        exports: drafted,
-        members: drafted_members,
+        exports,
+        members,
         declarations,
         ..
     } = draft;
-    let functions = declarations.iter().filter(|it| it.body.is_some()).count();
-    let mut decls = Vec::with_capacity(alloc, declarations.len())?;
-    for declaration in declarations {
-        let Declaration {
-            range,
-            binds,
-            body,
-            target,
-        } = declaration;
-        decls.push(SymbolDecl {
-            range,
-            value: binds != Binds::Type,
-            type_: binds != Binds::Value,
-            has_overloads: body.is_some() && functions > 1,
-            has_body: body == Some(true),
-            kind: kind_of(alloc, target, bindings, shared)?,
-        })?;
-    }
-    let mut exports = SymbolExports::new(alloc);
-    for (name, symbol) in drafted {
-        exports.put(String::from_str(alloc, name.as_str())?, number(symbol))?;
-    }
-    let mut members = Vec::with_capacity(alloc, drafted_members.len())?;
-    for member in drafted_members {
-        members.push(number(member))?;
-    }
+    let exports = exports_of(alloc, exports.as_slice())?;
+    let members = numbers_of(alloc, members.as_slice())?;
+    let decls = decls_of(alloc, declarations, bindings, shared)?;
     Ok(Symbol {
         id: number(SymbolNo(no)),
         parent_id: parent.map(|it| number(it)),
@@ -299,8 +369,59 @@ fn finished(
         qualified_name: qualified,
         exports,
         members,
-        decls: SymbolDecls::new(alloc, decls)?,
+        decls,
     })
+}
+
+fn symbols_of(
+    alloc: Global,
+    drafts: Vec<Draft>,
+    bindings: &Bindings,
+) -> Result<Vec<Symbol>, AllocError> {
+    let enums = enum_dependencies(alloc, drafts.as_slice())?;
+    let mut symbols = Vec::with_capacity(alloc, drafts.len())?;
+    for (no, draft) in drafts.into_iter().enumerate() {
+        let shared = match draft.of_enum {
+            Some(found) => enums.get(&found.0),
+            None => None,
+        };
+        symbols.push(finished(alloc, no, draft, bindings, shared)?)?;
+    }
+    Ok(symbols)
+}
+
+// The symbols of names, in the order in which these were bound.
+fn ids_of(
+    alloc: Global,
+    names: Vec<Id>,
+    bindings: &Bindings,
+) -> Result<Vec<(Id, SymbolId)>, AllocError> {
+    let mut ids = Vec::with_capacity(alloc, names.len())?;
+    for id in names {
+        if let Some(symbol) = bindings.find(&id) {
+            ids.push((id, number(symbol)))?;
+        }
+    }
+    Ok(ids)
+}
+
+// The tables of the items of a module, before they are finished.
+fn gathered(
+    alloc: Global,
+    program: Part<'_>,
+    is_declaration_file: bool,
+) -> Result<Tables, AllocError> {
+    let mut tables = Tables::new(alloc)?;
+    if program.kind() == Kind::Module {
+        tables.items(Module::of(program).body, is_declaration_file);
+    } else {
+        tables.items(Script::of(program).body, false);
+    }
+    if tables.lacks {
+        Err(AllocError)
+    } else {
+        Ok(tables)
+    }
 }
 
 /// The tables of a module, without the names that other modules answer.
@@ -312,40 +433,17 @@ pub fn tables_of(
     ensures module_is_first { IfOk result (λ tables. tables.module_symbol.0 ≡ 0) }
     ensures names_of_others_are_left { IfOk result (λ tables. tables.resolved_exports.items ≡ []) }
 {
-    let mut tables = Tables::new(alloc)?;
-    let program = tree.read();
-    if program.kind() == Kind::Module {
-        tables.items(Module::of(program).body, is_declaration_file);
-    } else {
-        tables.items(Script::of(program).body, false);
-    }
-    if tables.lacks {
-        return Err(AllocError);
-    }
     let Tables {
         drafts,
         by_name,
         names,
         re_exports,
         ..
-    } = tables;
+    } = gathered(alloc, tree.read(), is_declaration_file)?;
     let classes = classes_of(alloc, drafts.as_slice(), &by_name)?;
-    let enums = enum_dependencies(alloc, drafts.as_slice())?;
     let bindings = Bindings { by_name, classes };
-    let mut symbols = Vec::with_capacity(alloc, drafts.len())?;
-    for (no, draft) in drafts.into_iter().enumerate() {
-        let shared = match draft.of_enum {
-            Some(found) => enums.get(&found.0),
-            None => None,
-        };
-        symbols.push(finished(alloc, no, draft, &bindings, shared)?)?;
-    }
-    let mut swc_ids = Vec::with_capacity(alloc, names.len())?;
-    for id in names {
-        if let Some(symbol) = bindings.find(&id) {
-            swc_ids.push((id, number(symbol)))?;
-        }
-    }
+    let symbols = symbols_of(alloc, drafts, &bindings)?;
+    let swc_ids = ids_of(alloc, names, &bindings)?;
     Ok(ModuleTables {
         symbols,
         module_symbol: number(MODULE),

@@ -1,54 +1,16 @@
 //! The items of a module or of a namespace.
-ghost use Rattle.std.specs.Prelude.{◌≡◌, ◌↔◌, IsSome};
-ghost use Rattle.fast_check_tree_syntax.specs.Part.{seen};
-ghost use Rattle.fast_check_tree_syntax.specs.Shape.{kind_of};
-ghost use Rattle.fast_check_tree_syntax.specs.declared.kind.Kind.TheVariants as kinds;
-
 use crate::builder::{Binds, MODULE, PLAIN, SymbolNo, Tables};
-use crate::declarations::{Setting, declared_names};
+use crate::declarations::Setting;
 use fast_check_source_heights::Waiting;
+use fast_check_source_references::declared::{
+    declaration_of, declared_names, is_declaration, says_exports,
+};
+use fast_check_source_references::dependencies::Dependencies;
 use fast_check_source_references::names::text_of;
 use fast_check_tree_forms_expressions::{AssignExpr, MemberExpr};
-use fast_check_tree_forms_programs::ExportDecl;
 use fast_check_tree_forms_statements::ExprStmt;
 use fast_check_tree_syntax::{Atom, Kind, Part, SourceRange};
 use std::alloc::AllocError;
-
-// Whether a body says itself what it exports.
-pub fn says_exports(items: Part<'_>) -> bool {
-    items.parts().iter().any(|item| {
-        matches!(
-            item.read().kind(),
-            Kind::NamedExport | Kind::ExportAll | Kind::TsExportAssignment | Kind::ExportDefaultExpr
-        )
-    })
-}
-
-// The declaration that an item is, with the range of the export that it stands in.
-pub fn declaration_of(item: Part<'_>) -> (Part<'_>, Option<SourceRange>)
-    ensures { IsSome result.1 ↔ (kind_of (seen item.entry) ≡ kinds.ExportDecl) }
-{
-    if item.kind() == Kind::ExportDecl {
-        let ExportDecl { span, decl } = ExportDecl::of(item);
-        (decl, Some(span))
-    } else {
-        (item, None)
-    }
-}
-
-pub fn is_declaration(item: Part<'_>) -> bool {
-    matches!(
-        item.kind(),
-        Kind::VarDecl
-            | Kind::UsingDecl
-            | Kind::FnDecl
-            | Kind::ClassDecl
-            | Kind::TsInterfaceDecl
-            | Kind::TsTypeAliasDecl
-            | Kind::TsEnumDecl
-            | Kind::TsModuleDecl
-    )
-}
 
 /// What a part is looked at as.
 #[derive(Clone, Copy, PartialEq, Eq)]
@@ -148,15 +110,26 @@ impl Tables {
         waiting: &mut Waiting<Task<'a>>,
     ) -> Result<(), AllocError> {
         if shown && setting.parent != MODULE {
-            for id in declared_names(self.alloc, decl)?.iter() {
-                self.join(id, setting.parent);
-            }
+            self.join_names(decl, setting.parent)?;
         }
-        let made = self.declaration(decl, setting, waiting)?;
+        let mut made = Vec::new(self.alloc);
+        if matches!(decl.kind(), Kind::VarDecl | Kind::UsingDecl) {
+            self.variables(decl, setting, &mut made)?;
+        } else if let Some(symbol) = self.single(decl, setting, waiting) {
+            made.push(symbol)?;
+        }
         if shown {
             for symbol in made.iter() {
                 self.export_by_name(setting.parent, *symbol)?;
             }
+        }
+        Ok(())
+    }
+
+    // Joins the names that a declaration declares.
+    fn join_names(&mut self, decl: Part<'_>, namespace: SymbolNo) -> Result<(), AllocError> {
+        for id in declared_names(self.alloc, decl)?.iter() {
+            self.join(id, namespace);
         }
         Ok(())
     }
@@ -196,7 +169,7 @@ impl Tables {
             return None;
         }
         let id = self.id(obj)?;
-        let symbol = self.find(&id)?;
+        let symbol = self.by_name.get(&id).copied()?;
         if self.drafts.get(symbol.0)?.is_function {
             Some((symbol, text_of(prop)))
         } else {
@@ -233,7 +206,7 @@ impl Tables {
         let name = Atom::from_str(self.alloc, name)?;
         if self.export_of(owner, &name).is_none() {
             let made = self.push_named(owner, name.as_str());
-            let mut dependencies = self.dependencies();
+            let mut dependencies = Dependencies::new(self.alloc);
             dependencies.value(value);
             self.define(made, span, Binds::Value, PLAIN, dependencies);
             self.export(owner, &name, made);

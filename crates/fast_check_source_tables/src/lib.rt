@@ -1,7 +1,6 @@
 //! The tables of a module by its tree: its symbols with their exports, members and declarations, and what these refer to.
 #![tactic(auto)]
 
-mod ambient;
 mod builder;
 mod classes;
 mod declarations;
@@ -9,5 +8,4 @@ mod exports;
 mod finish;
 mod items;
 
-pub use ambient::with_exports;
 pub use finish::tables_of;

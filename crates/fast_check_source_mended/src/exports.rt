@@ -1,7 +1,7 @@
 //! Declarations of a declaration file, or of an ambient namespace, are exported without a word where no list of exports stands beside them. Since a list
 //! goes from a skeleton, the word is written in here.
-use crate::items::{declaration_of, is_declaration, says_exports};
 use fast_check_source_heights::Waiting;
+use fast_check_source_references::declared::{declaration_of, is_declaration, says_exports};
 use fast_check_tree_forms_classes::{Class, Function};
 use fast_check_tree_forms_programs::{ExportDecl, Module};
 use fast_check_tree_forms_statements::{
@@ -96,6 +96,32 @@ impl<'a> Implied<'a> {
     }
 }
 
+// Where the declarations of a program begin that get the word.
+fn starts_of(
+    alloc: Global,
+    program: Part<'_>,
+    is_declaration_file: bool,
+) -> Result<BTreeSet<u32>, AllocError> {
+    let mut implied = Implied {
+        starts: BTreeSet::new(alloc),
+        waiting: Waiting::new(alloc),
+    };
+    if program.kind() == Kind::Module {
+        let task = Task {
+            body: Module::of(program).body,
+            is_ambient: is_declaration_file,
+        };
+        implied.items(task, is_declaration_file && !says_exports(task.body));
+        implied.run();
+    }
+    let Implied { starts, waiting } = implied;
+    if waiting.lacks {
+        Err(AllocError)
+    } else {
+        Ok(starts)
+    }
+}
+
 // A copy of a node, behind the word if it is one of the declarations that get it.
 fn exported(
     alloc: Global,
@@ -143,26 +169,13 @@ fn all_with_words(
 /// A program with the implied exports written in.
 pub fn with_exports(
     alloc: Global,
-    program: &Tree,
+    program: Tree,
     is_declaration_file: bool,
 ) -> Result<Tree, AllocError> {
-    let part = program.read();
-    if part.kind() != Kind::Module {
-        return part.to_tree(alloc);
+    let starts = starts_of(alloc, program.read(), is_declaration_file)?;
+    if starts.is_empty() {
+        Ok(program)
+    } else {
+        with_words(alloc, &program, &starts)
     }
-    let body = Module::of(part).body;
-    let mut implied = Implied {
-        starts: BTreeSet::new(alloc),
-        waiting: Waiting::new(alloc),
-    };
-    let task = Task {
-        body,
-        is_ambient: is_declaration_file,
-    };
-    implied.items(task, is_declaration_file && !says_exports(body));
-    implied.run();
-    if implied.waiting.lacks {
-        return Err(AllocError);
-    }
-    with_words(alloc, program, &implied.starts)
 }
