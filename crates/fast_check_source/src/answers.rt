@@ -14,6 +14,7 @@ use fast_check_tables_modules::EsModuleInfo;
 use fast_check_tables_packages::{ListedPackages, PackageNv, WorkspaceMember};
 use fast_check_tables_symbols::ModuleTables;
 use fast_check_transform_module::TransformOptions;
+use fast_check_tree_syntax::Tree;
 use std::alloc::{AllocError, Global};
 use std::collections::{BTreeMap, VecDeque};
 use url::Url;
@@ -32,47 +33,32 @@ fn world_of(
     Ok(world)
 }
 
-// A module with the names that it answers.
-fn with_names(
+// Notes the names that a module answers.
+fn put_names(
     alloc: Global,
     world: &BTreeMap<Url, Names>,
     url: &Url,
     resolved: Option<&BTreeMap<String, Url>>,
-    module: Parsed,
-) -> Result<Parsed, AllocError> {
-    let resolved_exports = answered(alloc, world, url)?;
-    let Parsed { source, tables } = module;
-    let ModuleTables {
-        symbols,
-        module_symbol,
-        swc_ids,
-        re_export_all_nodes,
-        ..
-    } = tables;
-    let re_export_all_nodes = in_order(alloc, world, url, resolved, re_export_all_nodes)?;
-    let tables = ModuleTables {
-        symbols,
-        module_symbol,
-        swc_ids,
-        re_export_all_nodes,
-        resolved_exports,
-    };
-    Ok(Parsed { source, tables })
+    tables: &mut ModuleTables,
+) -> Result<(), AllocError> {
+    tables.resolved_exports = answered(alloc, world, url)?;
+    let mut nodes = Vec::new(alloc);
+    std::mem::swap(&mut nodes, &mut tables.re_export_all_nodes);
+    tables.re_export_all_nodes = in_order(alloc, world, url, resolved, nodes)?;
+    Ok(())
 }
 
-// The modules, each with the names that it answers.
-fn all_with_names(
+// Notes the names that each of the modules answers.
+fn put_all_names(
     alloc: Global,
-    modules: BTreeMap<Url, Parsed>,
+    modules: &mut BTreeMap<Url, Parsed>,
     resolutions: &BTreeMap<Url, BTreeMap<String, Url>>,
-) -> Result<BTreeMap<Url, Parsed>, AllocError> {
-    let world = world_of(alloc, &modules, resolutions)?;
-    let mut made = BTreeMap::new(alloc);
-    for (url, module) in modules {
-        let module = with_names(alloc, &world, &url, resolutions.get(&url), module)?;
-        let _ = made.insert(url, module)?;
+) -> Result<(), AllocError> {
+    let world = world_of(alloc, modules, resolutions)?;
+    for (url, module) in modules.iter_mut() {
+        put_names(alloc, &world, url, resolutions.get(url), &mut module.tables)?;
     }
-    Ok(made)
+    Ok(())
 }
 
 // The modules with their tables looked at.
@@ -86,44 +72,30 @@ fn infos_of(alloc: Global, modules: BTreeMap<Url, Parsed>) -> Result<BTreeMap<Ur
     Ok(made)
 }
 
-// A skeleton by the words of its source.
-fn in_own_words(
-    alloc: Global,
-    module: FastCheckModule,
-    own_name: &str,
-) -> Result<FastCheckModule, AllocError> {
-    let FastCheckModule {
-        module_info,
-        program,
-        comments,
-    } = module;
-    let program = restored_skeleton(alloc, program, own_name)?;
-    Ok(FastCheckModule {
-        module_info,
-        program,
-        comments,
-    })
+// Has a skeleton stand by the words of its source.
+fn restore(alloc: Global, module: &mut FastCheckModule, own_name: &str) -> Result<(), AllocError> {
+    let mut program = Tree::Absent;
+    std::mem::swap(&mut program, &mut module.program);
+    module.program = restored_skeleton(alloc, program, own_name)?;
+    Ok(())
 }
 
-// The answers with skeletons by the words of their sources.
-fn all_in_own_words(
+// Has the skeletons stand by the words of their sources.
+fn restore_all(
     alloc: Global,
-    answers: Vec<ModuleAnswer>,
+    answers: &mut Vec<ModuleAnswer>,
     own_names: &BTreeMap<Url, String>,
-) -> Result<Vec<ModuleAnswer>, AllocError> {
-    let mut made = Vec::new(alloc);
-    for (url, answer) in answers {
-        let own_name = match own_names.get(&url) {
+) -> Result<(), AllocError> {
+    for (url, answer) in answers.iter_mut() {
+        let own_name = match own_names.get(&*url) {
             Some(own_name) => own_name.as_str(),
             None => "",
         };
-        let answer = match answer {
-            Ok(module) => Ok(in_own_words(alloc, module, own_name)?),
-            Err(diagnostics) => Err(diagnostics),
-        };
-        made.push((url, answer))?;
+        if let Ok(module) = answer {
+            restore(alloc, module, own_name)?;
+        }
     }
-    Ok(made)
+    Ok(())
 }
 
 fn no_other_packages(alloc: Global) -> Result<ListedPackages> {
@@ -141,12 +113,12 @@ pub fn input_of(
     found: Found,
 ) -> Result<(Input, BTreeMap<Url, String>)> {
     let Found {
-        modules,
+        mut modules,
         graph,
         resolutions,
         own_names,
     } = found;
-    let modules = all_with_names(alloc, modules, &resolutions)?;
+    put_all_names(alloc, &mut modules, &resolutions)?;
     let members = members_of(alloc, packages)?;
     let pending = pending_of(alloc, packages)?;
     let input = Input {
@@ -194,7 +166,7 @@ pub fn build(
     let infos = infos_of(alloc, modules)?;
     let root = RootSymbol::new(infos, BTreeMap::new(alloc))?;
     let graph = ModuleGraph::from_parts(alloc, graph, resolutions, BTreeMap::new(alloc))?;
-    let answers = answers_of(alloc, &graph, &root, members, pending)?;
-    let answers = all_in_own_words(alloc, answers, own_names)?;
+    let mut answers = answers_of(alloc, &graph, &root, members, pending)?;
+    restore_all(alloc, &mut answers, own_names)?;
     Ok(answers)
 }

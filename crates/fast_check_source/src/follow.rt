@@ -158,17 +158,20 @@ struct Place<'a> {
 
 /// A folder while its modules are read.
 #[derive(Drop)]
-struct Reading {
-    found: Found,
-    // The files that are read, in order.
-    read: Vec<ReadFile>,
-    messages: Messages,
+pub struct Reading {
+    pub found: Found,
+    /// The files that are read, in order.
+    pub read: Vec<ReadFile>,
+    pub messages: Messages,
     // The paths of entry points.
     entries: BTreeSet<String>,
     seen: BTreeSet<String>,
     // The paths of files that are still to be read, the next one last.
     waiting: Vec<String>,
     projects: Projects,
+    // Where the texts of the module at hand lead.
+    leads: Vec<Lead>,
+    resolved: BTreeMap<String, Url>,
 }
 
 impl Reading {
@@ -186,6 +189,8 @@ impl Reading {
             seen: BTreeSet::new(alloc),
             waiting: Vec::new(alloc),
             projects,
+            leads: Vec::new(alloc),
+            resolved: BTreeMap::new(alloc),
         }
     }
 
@@ -252,25 +257,27 @@ impl Reading {
         place: Place<'_>,
         text: &str,
         target: Url,
-        resolved: &mut BTreeMap<String, Url>,
     ) -> Result<(), AllocError> {
         if target == *place.url {
             let own = String::from_str(alloc, name_of(place.path))?;
             let _ = self.found.own_names.insert(place.url.clone()?, own)?;
         }
-        let _ = resolved.insert(String::from_str(alloc, text)?, target)?;
+        let _ = self
+            .resolved
+            .insert(String::from_str(alloc, text)?, target)?;
         Ok(())
     }
 
-    // Notes that a file is read.
+    // Notes that a file is read, and where its texts lead.
     fn push_read(
         &mut self,
         alloc: Global,
         path: &str,
-        leads: Vec<Lead>,
         names_return: bool,
     ) -> Result<(), AllocError> {
         let path = String::from_str(alloc, path)?;
+        let mut leads = Vec::new(alloc);
+        std::mem::swap(&mut leads, &mut self.leads);
         self.read.push(ReadFile {
             path,
             leads,
@@ -279,33 +286,45 @@ impl Reading {
         Ok(())
     }
 
-    // Where the texts of a module lead by which it names others.
-    fn leads(
+    // Looks where a text of a module leads.
+    fn follow(
+        &mut self,
+        files: &Files<'_>,
+        packages: &[Package],
+        place: Place<'_>,
+        places: &mut Places<'_>,
+        source: SourceText<'_>,
+    ) -> Result<()> {
+        let alloc = files.alloc();
+        let named = named_types(place.text, (source.around as usize).saturating_sub(1));
+        let target = self.lead(files, packages, place.path, source.text, named)?;
+        self.leads.push(Lead::of(alloc, source, target.as_ref())?)?;
+        match target {
+            Some(target) => self.note(alloc, place, source.text, target)?,
+            None => self.missing(alloc, place.path, places, source),
+        }
+        Ok(())
+    }
+
+    // Looks where the texts of a module lead by which it names others.
+    fn follow_all(
         &mut self,
         files: &Files<'_>,
         packages: &[Package],
         place: Place<'_>,
         program: &Tree,
-    ) -> Result<BTreeMap<String, Url>> {
+    ) -> Result<()> {
         let alloc = files.alloc();
         let Named {
             sources,
             names_return,
         } = sources_of(alloc, program.read())?;
-        let mut resolved: BTreeMap<String, Url> = BTreeMap::new(alloc);
-        let mut leads = Vec::new(alloc);
         let mut places = Places::new(place.text);
         for source in sources.iter() {
-            let named = named_types(place.text, (source.around as usize).saturating_sub(1));
-            let target = self.lead(files, packages, place.path, source.text, named)?;
-            leads.push(Lead::of(alloc, *source, target.as_ref())?)?;
-            match target {
-                Some(target) => self.note(alloc, place, source.text, target, &mut resolved)?,
-                None => self.missing(alloc, place.path, &mut places, *source),
-            }
+            self.follow(files, packages, place, &mut places, *source)?;
         }
-        self.push_read(alloc, place.path, leads, names_return)?;
-        Ok(resolved)
+        self.push_read(alloc, place.path, names_return)?;
+        Ok(())
     }
 
     // The text of a file, if it is one.
@@ -333,12 +352,14 @@ impl Reading {
     // Keeps a module under its URL.
     fn keep(
         &mut self,
+        alloc: Global,
         url: &Url,
         media_type: MediaType,
-        resolved: BTreeMap<String, Url>,
         module: Parsed,
     ) -> Result<(), AllocError> {
         let _ = self.found.modules.insert(url.clone()?, module)?;
+        let mut resolved = BTreeMap::new(alloc);
+        std::mem::swap(&mut resolved, &mut self.resolved);
         let _ = self.found.resolutions.insert(url.clone()?, resolved)?;
         let _ = self.found.graph.insert(url.clone()?, js(media_type))?;
         Ok(())
@@ -362,8 +383,8 @@ impl Reading {
         };
         let place = Place { path, url, text };
         let module = read_module(alloc, tree, text, media_type)?;
-        let resolved = self.leads(files, packages, place, &module.source.program)?;
-        self.keep(url, media_type, resolved, module)?;
+        self.follow_all(files, packages, place, &module.source.program)?;
+        self.keep(alloc, url, media_type, module)?;
         Ok(())
     }
 
@@ -394,7 +415,7 @@ impl Reading {
             return self.module(files, packages, path, &url, media_type);
         }
         self.other(path, &url, media_type)?;
-        self.push_read(alloc, path, Vec::new(alloc), false)?;
+        self.push_read(alloc, path, false)?;
         Ok(())
     }
 
@@ -424,16 +445,10 @@ pub fn modules_of(
     packages: &[Package],
     projects: Projects,
     messages: Messages,
-) -> Result<(Found, Vec<ReadFile>, Messages)> {
+) -> Result<Reading> {
     let mut reading = Reading::new(files.alloc(), projects, messages);
     reading.start(packages)?;
     reading.run(files, packages)?;
-    let Reading {
-        mut found,
-        read,
-        messages,
-        ..
-    } = reading;
-    keep_readable(&mut found);
-    Ok((found, read, messages))
+    keep_readable(&mut reading.found);
+    Ok(reading)
 }

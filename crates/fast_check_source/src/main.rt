@@ -16,7 +16,7 @@ mod urls;
 mod world;
 
 use crate::answers::{build, input_of};
-use crate::follow::{Found, modules_of};
+use crate::follow::{Found, Reading, modules_of};
 use crate::lines::{Told, line_of};
 use anyhow::Result;
 use fast_check_source_configs::messages::Messages;
@@ -91,6 +91,26 @@ fn told_of(alloc: Global, packages: &[&Package], found: Found, asks_input: bool)
     Ok(Told::Answers(build(alloc, input, &own_names)?))
 }
 
+// What is answered of the packages of a folder: a line, and the status.
+fn tell(
+    alloc: Global,
+    packages: &[Package],
+    reading: Reading,
+    asks_input: bool,
+) -> Result<(String, u8)> {
+    let Reading {
+        found,
+        read,
+        messages,
+        ..
+    } = reading;
+    let asked = readable(alloc, packages, messages.errors.items.as_slice())?;
+    let told = told_of(alloc, asked.as_slice(), found, asks_input)?;
+    let status = status_of(&messages, told.has_diagnostics());
+    let line = line_of(alloc, told, &messages, packages, read.as_slice())?;
+    Ok((line, status))
+}
+
 // What is answered of a folder: a line, and the status.
 fn answer(
     rt: &HostRuntime,
@@ -103,12 +123,8 @@ fn answer(
     let mut messages = Messages::new(alloc);
     let mut projects = Projects::new(alloc);
     let packages = packages_of(&files, &mut projects, &mut messages)?;
-    let (found, read, messages) = modules_of(&files, packages.as_slice(), projects, messages)?;
-    let asked = readable(alloc, packages.as_slice(), messages.errors.items.as_slice())?;
-    let told = told_of(alloc, asked.as_slice(), found, asks_input)?;
-    let status = status_of(&messages, told.has_diagnostics());
-    let line = line_of(alloc, told, &messages, packages.as_slice(), read.as_slice())?;
-    Ok((line, status))
+    let reading = modules_of(&files, packages.as_slice(), projects, messages)?;
+    tell(alloc, packages.as_slice(), reading, asks_input)
 }
 
 // What the words behind `--text` say, if there are two.
