@@ -12,6 +12,7 @@ use std::collections::{BTreeMap, VecDeque};
 fn version_of(alloc: Global, text: &str) -> Result<Version, AllocError> {
     match Version::parse(alloc, text) {
         Ok(version) => Ok(version),
+        Err(error) if error == semver::Error::from(AllocError) => Err(AllocError),
         Err(_) => Ok(Version::new(0, 0, 0)),
     }
 }

@@ -2,7 +2,7 @@
 use anyhow::Result;
 use fast_check_source_files::files::joined;
 use std::alloc::{AllocError, Global};
-use url::Url;
+use url::{ParseError, Url};
 
 const HEX: &str = "0123456789ABCDEF";
 
@@ -50,9 +50,12 @@ pub fn url_of(alloc: Global, path: &str) -> Result<Url> {
 
 /// The URL of what a text names outside of the folder: a package of npm, where it says no scheme.
 pub fn external(alloc: Global, text: &str) -> Result<Url> {
-    if let Ok(url) = Url::parse(alloc, text) {
-        return Ok(url);
+    match Url::parse(alloc, text) {
+        Ok(url) => Ok(url),
+        Err(ParseError::OutOfMemory) => Err(AllocError.into()),
+        Err(_) => {
+            let text = joined(alloc, "npm:", text)?;
+            Ok(Url::parse(alloc, text.as_str())?)
+        }
     }
-    let text = joined(alloc, "npm:", text)?;
-    Ok(Url::parse(alloc, text.as_str())?)
 }

@@ -3,6 +3,7 @@ ghost use Rattle.std.specs.Prelude.{◌≡◌, ◌++◌, IfOk, string_bytes};
 
 use std::alloc::{AllocError, Global};
 use std::fs::{self, Metadata};
+use std::io::{self, ErrorKind};
 
 // What TypeScript looks for in place of an ending that is written.
 const REPLACED: [(&str, &[&str]); 8] = [
@@ -27,6 +28,15 @@ fn instead(name: &str) -> (&str, &'static [&'static str]) {
 }
 
 const ADDED: [&str; 5] = [".ts", ".tsx", ".d.ts", ".js", ".jsx"];
+
+// What the system gives, or none where it refuses. That memory ran out is no answer of the system's.
+fn given<T: Drop>(asked: io::Result<T>) -> Result<Option<T>, AllocError> {
+    match asked {
+        Ok(value) => Ok(Some(value)),
+        Err(error) if error.kind() == ErrorKind::OutOfMemory => Err(AllocError),
+        Err(_) => Ok(None),
+    }
+}
 
 /// What stands at a path.
 #[derive(Clone, Copy, PartialEq, Eq)]
@@ -126,9 +136,9 @@ impl<'a> Files<'a> {
         root: &'a str,
         texts: &'a [Text],
     ) -> Result<Files<'a>, AllocError> {
-        let real = match fs::canonicalize(rt, root) {
-            Ok(path) => path.into_string(),
-            Err(_) => String::from_str(rt.alloc(), root)?,
+        let real = match given(fs::canonicalize(rt, root))? {
+            Some(path) => path.into_string(),
+            None => String::from_str(rt.alloc(), root)?,
         };
         Ok(Files {
             rt,
@@ -157,9 +167,9 @@ impl<'a> Files<'a> {
     /// What stands at a path, behind links.
     pub fn standing(&self, path: &str) -> Result<Standing, AllocError> {
         let name = self.whole(path)?;
-        Ok(match fs::metadata(self.rt, name.as_str()) {
-            Ok(found) => standing_of(&found),
-            Err(_) => Standing::Nothing,
+        Ok(match given(fs::metadata(self.rt, name.as_str()))? {
+            Some(found) => standing_of(&found),
+            None => Standing::Nothing,
         })
     }
 
@@ -170,7 +180,7 @@ impl<'a> Files<'a> {
     /// The path behind links, if it lies in the folder.
     pub fn behind_links(&self, path: &str) -> Result<Option<String>, AllocError> {
         let name = self.whole(path)?;
-        let Ok(found) = fs::canonicalize(self.rt, name.as_str()) else {
+        let Some(found) = given(fs::canonicalize(self.rt, name.as_str()))? else {
             return Ok(None);
         };
         let real = found.into_string();
@@ -210,12 +220,12 @@ impl<'a> Files<'a> {
             return Ok(None);
         }
         let name = self.source(path)?;
-        match fs::read_to_string(self.rt, name.as_str()) {
-            Ok(text) => match text.as_str().strip_prefix("\u{feff}") {
-                Some(rest) => Ok(Some(String::from_str(self.alloc(), rest)?)),
-                None => Ok(Some(text)),
-            },
-            Err(_) => Ok(None),
+        let Some(text) = given(fs::read_to_string(self.rt, name.as_str()))? else {
+            return Ok(None);
+        };
+        match text.as_str().strip_prefix("\u{feff}") {
+            Some(rest) => Ok(Some(String::from_str(self.alloc(), rest)?)),
+            None => Ok(Some(text)),
         }
     }
 
@@ -262,11 +272,11 @@ impl<'a> Files<'a> {
     // Pushes the paths of what lies in a folder, but for what is hidden and for `node_modules`.
     fn push_listed(&self, folder: &str, out: &mut Vec<String>) -> Result<(), AllocError> {
         let name = self.whole(folder)?;
-        let Ok(entries) = fs::read_dir(self.rt, name.as_str()) else {
+        let Some(entries) = given(fs::read_dir(self.rt, name.as_str()))? else {
             return Ok(());
         };
         for entry in entries {
-            let Ok(entry) = entry else {
+            let Some(entry) = given(entry)? else {
                 break;
             };
             let own = entry.file_name();
@@ -320,13 +330,10 @@ impl<'a> Files<'a> {
     // What stands at a path itself, or none where it is a link.
     fn own_standing(&self, path: &str) -> Result<Option<Standing>, AllocError> {
         let name = self.whole(path)?;
-        Ok(match fs::symlink_metadata(self.rt, name.as_str()) {
-            Ok(found) => if found.is_symlink() {
-                None
-            } else {
-                Some(standing_of(&found))
-            },
-            Err(_) => Some(Standing::Nothing),
+        Ok(match given(fs::symlink_metadata(self.rt, name.as_str()))? {
+            Some(found) if found.is_symlink() => None,
+            Some(found) => Some(standing_of(&found)),
+            None => Some(Standing::Nothing),
         })
     }
 }

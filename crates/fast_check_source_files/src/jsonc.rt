@@ -101,6 +101,7 @@ pub fn value_of(alloc: Global, text: &str) -> Result<Option<Value>, AllocError> 
     let json = plain_json(alloc, text)?;
     match Value::from_str(alloc, json.as_str()) {
         Ok(value) => Ok(Some(value)),
+        Err(error) if error.is_memory() => Err(AllocError),
         Err(_) => Ok(None),
     }
 }

@@ -36,6 +36,73 @@ fn past_brackets<'a>(tokens: Cursor<'a>) -> Cursor<'a> {
     ahead
 }
 
+// Passes a key of an object pattern and its `:`, if both stand here. `[a: A]` is an index signature, and `keyof A` no value.
+fn pass_key(ahead: &mut Cursor<'_>) {
+    let after = match ahead.kind() {
+        TokenKind::Name | TokenKind::String | TokenKind::Number | TokenKind::BigInt => {
+            ahead.second()
+        }
+        TokenKind::LBracket => {
+            let mut inner = ahead.second();
+            if inner.eat(TokenKind::Name)
+                && (inner.is(TokenKind::Colon)
+                    || (inner.eat_word(Keyword::In) && inner.is_word(Keyword::Keyof)))
+            {
+                return;
+            }
+            past_brackets(*ahead)
+        }
+        _ => return,
+    };
+    if after.is(TokenKind::Colon) {
+        *ahead = after.second();
+    }
+}
+
+// The place past brackets that are open, if they hold a pattern. Behind the first default value all is taken to be one: no type has a `=` there. The last bits
+// of `lists` say of the innermost 64 brackets which ones are a `[`.
+fn past_pattern<'a>(tokens: Cursor<'a>) -> Option<Cursor<'a>> {
+    let mut ahead = tokens.second();
+    let mut lists = u64::from(tokens.is(TokenKind::LBracket));
+    let mut depth: usize = 1;
+    let mut is_behind = false;
+    for _turn in 0..tokens.left() {
+        match ahead.kind() {
+            TokenKind::RBrace | TokenKind::RBracket => {
+                depth = depth.saturating_sub(1);
+                lists = lists >> 1;
+                is_behind = true;
+                ahead.advance();
+                if depth == 0 {
+                    return Some(ahead);
+                }
+            }
+            TokenKind::Comma => {
+                is_behind = false;
+                ahead.advance();
+            }
+            TokenKind::Assign => return Some(past_brackets(tokens)),
+            _ if is_behind => break,
+            TokenKind::Dots => ahead.advance(),
+            _ => {
+                if lists & 1 == 0 {
+                    pass_key(&mut ahead);
+                }
+                match ahead.kind() {
+                    TokenKind::LBrace | TokenKind::LBracket => {
+                        depth = depth.saturating_add(1);
+                        lists = lists << 1 | u64::from(ahead.is(TokenKind::LBracket));
+                    }
+                    TokenKind::Name if !is_reserved(ahead.word()) => is_behind = true,
+                    _ => break,
+                }
+                ahead.advance();
+            }
+        }
+    }
+    None
+}
+
 // Whether a `(` begins the parameters of a function type.
 fn opens_function(at: Cursor<'_>) -> bool {
     let ahead = at.second();
@@ -43,7 +110,10 @@ fn opens_function(at: Cursor<'_>) -> bool {
         TokenKind::RParen | TokenKind::Dots => return true,
         TokenKind::Name if !is_reserved(ahead.word()) || ahead.is_word(Keyword::This) =>
             ahead.second(),
-        TokenKind::LBrace | TokenKind::LBracket => past_brackets(ahead),
+        TokenKind::LBrace | TokenKind::LBracket => match past_pattern(ahead) {
+            Some(after) => after,
+            None => return false,
+        },
         _ => return false,
     };
     match after.kind() {

@@ -30,6 +30,12 @@ fn tag_name<'a>(tokens: &mut Tokens<'a>) -> Result<&'a str, ParseError> {
     Ok(tokens.at.text_from(start))
 }
 
+// Whether two tags have one name, with or without blanks in it.
+fn is_one_name(first: &str, second: &str) -> bool {
+    let first = first.bytes().filter(|byte| !byte.is_ascii_whitespace());
+    first.eq(second.bytes().filter(|byte| !byte.is_ascii_whitespace()))
+}
+
 // Passes the `>` that ends an element, and the text behind it where the element stands in another.
 fn end_tag(tokens: &mut Tokens<'_>, nested: bool) -> Result<(), ParseError> {
     if !tokens.at.is(TokenKind::Greater) {
@@ -86,7 +92,7 @@ impl<F: Fn(Global, &mut Tokens<'_>, usize, Rule) -> Result<Tree, ParseError>> Va
         self.children(tokens)?;
         tokens.at.expect(TokenKind::Slash)?;
         let at = tokens.at;
-        if tag_name(tokens)? != name {
+        if !is_one_name(tag_name(tokens)?, name) {
             return Err(at.refuse());
         }
         end_tag(tokens, nested)
