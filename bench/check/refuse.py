@@ -3,6 +3,7 @@
     python3 -m bench refuse PROGRAM COMMAND FILE..
     python3 -m bench refuse --where NUMBER PROGRAM COMMAND FILE
     python3 -m bench refuse --stored COUNT PROGRAM COMMAND
+    python3 -m bench refuse --folders PROGRAM FOLDER..
 
 PROGRAM COMMAND FILE is run with its first request refused, then with its second, and so on, until a run ends before
 the request that it was to be refused; each once with this request refused alone, and once with all from there on. Each run has to end with
@@ -14,6 +15,8 @@ where any run differs, and where no request was counted: then the program has an
 `--stored COUNT` takes so many of the stored runs of a command on less than 20 KB, evenly spread. A line for all files stands below.
 
 `--where NUMBER` refuses this request alone, and reports which calls it came from, by the names that the program has kept (`nm`).
+
+`--folders` runs PROGRAM, which is `fast-check-source`, in each FOLDER with the word `.`. The line may also be `error: memory allocation failed` then.
 
 The requests are those that the program makes of the C library: malloc, calloc, realloc, aligned_alloc and posix_memalign (`fork_server.py`).
 """
@@ -27,7 +30,7 @@ import tempfile
 from bench.check.fork_server import ForkServer, compile_library
 from bench.check.program_path import program_path
 
-WANT = (3, b"", b"error: out of memory\n")
+LINES = (b"error: out of memory\n", b"error: memory allocation failed\n")
 PASSED_OVER = "the answer is as if nothing had been refused"
 DATA = os.path.join(os.path.dirname(os.path.abspath(__file__)), "../../crates/fast_check_vectors/data")
 # Of inputs of so many bytes a run has so many requests that to refuse each takes too long.
@@ -39,6 +42,9 @@ MODES = {"alone": False, "and all from there on": True}
 class Program:
     """The program, on one file."""
 
+    # The lines of which one has to say that memory ran out.
+    lines = LINES[:1]
+
     def __init__(self, server, command, path):
         self.server, self.command, self.path = server, command, path
         with open(path, "rb") as file:
@@ -48,6 +54,19 @@ class Program:
         """Runs it with this request refused. Answers its status with what it wrote, and how many requests it met."""
         ran = self.server.run(self.command, self.text, refused=number, behind=behind, calls=calls)
         return ran[:3], ran.requests
+
+    def is_refused(self, ended):
+        """Whether a run ended as out of memory has to."""
+        return ended in [(3, b"", line) for line in self.lines]
+
+
+class FolderProgram(Program):
+    """The program `fast-check-source`, in one folder."""
+
+    lines = LINES
+
+    def __init__(self, program, library, path):
+        self.server, self.command, self.path, self.text = ForkServer(program, library, word=".", folder=path), ".", path, b""
 
 
 def outcome(ended, answer):
@@ -84,7 +103,7 @@ def refuse_each(program):
     for how, behind in MODES.items():
         for number, ended in each_request(program, behind):
             runs, requests = runs + 1, max(requests, number)
-            if ended != (WANT if number else answer):
+            if not program.is_refused(ended) if number else ended != answer:
                 differing[how, outcome(ended, answer)].append(number)
     TOTAL.update(files=1, requests=requests, runs=runs, differing=sum(map(len, differing.values())))
     print(f"{program.path}: requests={requests} runs={runs} differing={sum(map(len, differing.values()))}")
@@ -103,7 +122,7 @@ def tell_where(file, program, number, calls):
         library, place = line.rsplit(" ", 1)
         below = [name for start, name in known if start <= int(place, 16)]
         print(f"  {below[-1]}" if below and os.path.samefile(library, file) else f"  {library}")
-    print(outcome(ended, program.run(0)[0]) if ended != WANT else "the run ends as out of memory has to")
+    print("the run ends as out of memory has to" if program.is_refused(ended) else outcome(ended, program.run(0)[0]))
 
 
 def stored_runs(command, count):
@@ -115,8 +134,18 @@ def stored_runs(command, count):
     return [paths[place * len(paths) // count] for place in range(min(count, len(paths)))]
 
 
+def end_of(refused):
+    """Prints the line of all files, and answers the status."""
+    print(" ".join(f"{what}={number}" for what, number in TOTAL.items()))
+    return 0 if all(refused) else 1
+
+
 def main():
     words, where = sys.argv[1:], None
+    if words[:1] == ["--folders"] and len(words) > 2:
+        with tempfile.TemporaryDirectory() as made:
+            program, library = program_path(words[1]), compile_library(made)
+            return end_of([refuse_each(FolderProgram(program, library, path)) for path in words[2:]])
     if words[:1] == ["--stored"] and len(words) == 4:
         words = [*words[2:], *stored_runs(words[3], int(words[1]))]
     if words[:1] == ["--where"] and words[1:2] and words[1].isdigit():

@@ -1,7 +1,8 @@
 //! `fast-check-source [--input] [--text PATH FILE].. DIR ..`: reads the packages of each folder, and answers what `fast-check build` answers of them: a skeleton or
-//! the diagnostics of each of their public modules, with what is wrong with their files, the packages, and the files that were read, as a line of JSON. The status
-//! is 2 where a package cannot be read, and else 1 where a module has diagnostics. Of the folders behind `--input` it tells what `fast-check build` is asked, in
-//! place of the answers. In all folders behind `--text PATH FILE` the file at the path PATH from the folder has the text of FILE, where it is there.
+//! the diagnostics of each of their public modules, with what is wrong with their files, the packages, and the files that were read, as a line of JSON. Of the
+//! folders behind `--input` it tells what `fast-check build` is asked, in place of the answers. In all folders behind `--text PATH FILE` the file at the path PATH
+//! from the folder has the text of FILE, where it is there. The status is 2 where a package cannot be read, and else 1 where a module has diagnostics; 3 where
+//! memory runs out, and 4 where a line cannot be printed, each with a line on standard error.
 #![tactic(auto)]
 
 ghost use Rattle.std.specs.Prelude.{◌≡◌, ◌≢◌, IsTrue, vec_len};
@@ -18,7 +19,7 @@ mod world;
 use crate::answers::{build, input_of};
 use crate::follow::{Found, Reading, modules_of};
 use crate::lines::{Told, line_of};
-use anyhow::Result;
+use anyhow::{Error, Result};
 use fast_check_source_configs::messages::Messages;
 use fast_check_source_configs::tsconfig::Projects;
 use fast_check_source_files::files::{Files, Text};
@@ -134,8 +135,17 @@ fn text_of(words: &mut Args) -> Option<Text> {
     Some(Text { path, file })
 }
 
-fn main(rt: HostRuntime) -> Result<ExitCode> {
-    let mut words = env::args(&rt)?;
+// Says in a line why a run ends early, and answers its status.
+fn fail(rt: &HostRuntime, why: Error, status: u8) -> u8
+    ensures { result ≡ status }
+{
+    let _ = eprintln!(rt; "error: {why}");
+    status
+}
+
+// Prints the line of each folder that the words name, and answers the status.
+fn run(rt: &HostRuntime) -> Result<u8> {
+    let mut words = env::args(rt)?;
     let _ = words.next();
     let mut texts = Vec::new(rt.alloc());
     let mut status = 0;
@@ -147,15 +157,25 @@ fn main(rt: HostRuntime) -> Result<ExitCode> {
         if word.as_str() == "--input" {
             asks_input = true;
         } else if word.as_str() != "--text" {
-            let (line, own) = answer(&rt, word.as_str(), texts.as_slice(), asks_input)?;
-            println!(rt; "{line}")?;
+            let (line, own) = answer(rt, word.as_str(), texts.as_slice(), asks_input)?;
+            if let Err(why) = println!(rt; "{line}") {
+                return Ok(fail(rt, why.into(), 4));
+            }
             status = own.max(status);
         } else if let Some(text) = text_of(&mut words) {
             texts.push(text)?;
         } else {
             eprintln!(rt; "error: `--text` wants a path and a file")?;
-            return Ok(ExitCode::from(2));
+            return Ok(2);
         }
     }
-    Ok(ExitCode::from(status))
+    Ok(status)
+}
+
+fn main(rt: HostRuntime) -> ExitCode {
+    let status = match run(&rt) {
+        Ok(status) => status,
+        Err(why) => fail(&rt, why, 3),
+    };
+    ExitCode::from(status)
 }

@@ -156,18 +156,17 @@ pub fn is_local<'a>(
     let names = names_in(alloc, block)?;
     let mut waiting = Waiting::new(alloc);
     waiting.push(type_ann);
+    let mut is_local = false;
     for _turn in 0..u64::MAX {
         let Some(next) = waiting.pop() else {
             break;
         };
-        if names.has(next) {
-            return Ok(true);
-        }
+        is_local = is_local || names.has(next);
         push_naming(next, &mut waiting);
     }
     if waiting.lacks {
         Err(AllocError)
     } else {
-        Ok(false)
+        Ok(is_local)
     }
 }
