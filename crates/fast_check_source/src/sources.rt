@@ -1,5 +1,5 @@
 //! The texts by which a module names others.
-use fast_check_source_heights::Waiting;
+use fast_check_source_walks::Waiting;
 use fast_check_tree_forms_programs::{
     ExportAll, ExportNamedSpecifier, Ident, ImportDecl, ImportDefaultSpecifier,
     ImportNamedSpecifier, ImportStarAsSpecifier, NamedExport, Str, TsExternalModuleRef,

@@ -86,7 +86,7 @@ impl Edits {
 
 /// A copy of a tree with the edits.
 #[cycle(copies)]
-#[tactic(auto, using(fast_check_source_heights::proofs::Heights::node_height))]
+#[tactic(auto, using(fast_check_source_walks::proofs::Heights::node_height))]
 pub fn with_edits(alloc: Global, tree: &Tree, edits: &Edits) -> Result<Tree, AllocError> {
     match tree {
         Tree::Node(kind, parts) => match edits.at(*kind, parts.as_slice()) {
@@ -98,7 +98,7 @@ pub fn with_edits(alloc: Global, tree: &Tree, edits: &Edits) -> Result<Tree, All
 }
 
 #[cycle(copies)]
-#[tactic(auto, using(fast_check_source_heights::proofs::Heights::one_height))]
+#[tactic(auto, using(fast_check_source_walks::proofs::Heights::one_height))]
 fn all_with_edits(alloc: Global, trees: &[Tree], edits: &Edits) -> Result<Items<Tree>, AllocError> {
     let mut copies = Items::new(alloc);
     for tree in trees {

@@ -1,6 +1,6 @@
 //! Declarations of a declaration file, or of an ambient namespace, are exported without a word where no list of exports stands beside them. Since a list
 //! goes from a skeleton, the word is written in here.
-use fast_check_source_heights::Waiting;
+use fast_check_source_walks::Waiting;
 use fast_check_source_references::declared::{declaration_of, is_declaration, says_exports};
 use fast_check_tree_forms_classes::{Class, Function};
 use fast_check_tree_forms_programs::{ExportDecl, Module};
@@ -141,7 +141,7 @@ fn exported(
 }
 
 #[cycle(copies)]
-#[tactic(auto, using(fast_check_source_heights::proofs::Heights::node_height))]
+#[tactic(auto, using(fast_check_source_walks::proofs::Heights::node_height))]
 fn with_words(alloc: Global, tree: &Tree, starts: &BTreeSet<u32>) -> Result<Tree, AllocError> {
     match tree {
         Tree::Node(kind, parts) => {
@@ -153,7 +153,7 @@ fn with_words(alloc: Global, tree: &Tree, starts: &BTreeSet<u32>) -> Result<Tree
 }
 
 #[cycle(copies)]
-#[tactic(auto, using(fast_check_source_heights::proofs::Heights::one_height))]
+#[tactic(auto, using(fast_check_source_walks::proofs::Heights::one_height))]
 fn all_with_words(
     alloc: Global,
     trees: &[Tree],

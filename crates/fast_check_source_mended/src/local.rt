@@ -1,6 +1,6 @@
 //! Types that have a name of a body, which no skeleton could say.
 use crate::statements::variables_of;
-use fast_check_source_heights::Waiting;
+use fast_check_source_walks::Waiting;
 use fast_check_source_references::declared::{BoundNames, declarators, name_of};
 use fast_check_tree_forms_programs::Ident;
 use fast_check_tree_forms_statements::BlockStmt;

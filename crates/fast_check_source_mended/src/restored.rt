@@ -1,7 +1,7 @@
 //! A skeleton by the words of its source.
 use crate::edits::{Edits, edited, range_of};
 use crate::statements::name_tree;
-use fast_check_source_heights::Waiting;
+use fast_check_source_walks::Waiting;
 use fast_check_source_references::keys::STATIC;
 use fast_check_tree_forms_programs::{ExportAll, IdentName, ImportDecl, NamedExport, Str};
 use fast_check_tree_forms_types::TsImportType;

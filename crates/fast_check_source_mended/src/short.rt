@@ -2,7 +2,7 @@
 use crate::edits::{Edits, range_of, with_edits};
 use crate::members::put_accessors;
 use crate::returns::{Body, put_body, put_constructor};
-use fast_check_source_heights::Waiting;
+use fast_check_source_walks::Waiting;
 use fast_check_tree_forms_classes::{Class, ClassMethod, Constructor, Function, StaticBlock};
 use fast_check_tree_forms_expressions::{ArrowExpr, GetterProp, ObjectLit, SetterProp};
 use fast_check_tree_syntax::{Kind, Part, Tree, Word};

@@ -1,6 +1,6 @@
 //! Variables in the blocks of a module's statements, which the module declares, and properties that are assigned to functions under a text.
 use crate::edits::{Edits, hidden, range_of};
-use fast_check_source_heights::{Waiting, holds_statements};
+use fast_check_source_walks::{Waiting, holds_statements};
 use fast_check_tree_forms_expressions::{
     AssignExpr, ComputedPropName, MemberExpr, Tpl, TplElement,
 };

@@ -3,7 +3,7 @@ use crate::edits::{Edits, edited};
 use crate::members::put_static_names;
 use crate::statements::put_statements;
 use crate::unsaid::Unsaid;
-use fast_check_source_heights::Waiting;
+use fast_check_source_walks::Waiting;
 use fast_check_tree_forms_classes::Class;
 use fast_check_tree_forms_expressions::{ArrowExpr, AssignPat};
 use fast_check_tree_syntax::{Kind, Part, Tree};

@@ -1,16 +1,15 @@
 //! All rules together.
 ghost use Rattle.std.specs.Prelude.{◌≡◌, ◌≤◌, ◌+◌, IfOk, length, true};
 ghost use Rattle.fast_check_tree_syntax.specs.Height.{height};
-ghost use Rattle.fast_check_source_ranges.specs.Ranges.{is_nested as lies};
+ghost use Rattle.fast_check_source_walks.specs.Ranges.{is_nested as lies};
 
 use fast_check_source_expressions::Expressions;
 use fast_check_source_grammar::{Grammar, MAX_HEIGHT, ParseError, Rule, Tokens};
-use fast_check_source_heights::is_at_most;
 use fast_check_source_lexer::TokenKind;
-use fast_check_source_ranges::is_nested;
 use fast_check_source_statements::Statements;
 use fast_check_source_types::Types;
 use fast_check_source_values::Values;
+use fast_check_source_walks::{is_at_most, is_nested};
 use fast_check_tree_forms_programs::{Module, Script};
 use fast_check_tree_syntax::{Atom, Items, Kind, SourcePos, SourceRange, Tree};
 use std::alloc::{AllocError, Global};

@@ -5,7 +5,7 @@ ghost use Rattle.fast_check_tree_syntax.specs.Shape.{kind_of};
 ghost use Rattle.fast_check_tree_syntax.specs.declared.kind.Kind.TheVariants as kinds;
 
 use crate::names::id_of;
-use fast_check_source_heights::Waiting;
+use fast_check_source_walks::Waiting;
 use fast_check_tree_forms_expressions::{AssignPat, AssignPatProp};
 use fast_check_tree_forms_programs::{BindingIdent, ExportDecl};
 use fast_check_tree_forms_statements::{

@@ -1,5 +1,5 @@
 //! The type that the only return of a function asserts.
-use fast_check_source_heights::{Waiting, holds_statements};
+use fast_check_source_walks::{Waiting, holds_statements};
 use fast_check_tree_forms_expressions::{ParenExpr, TsAsExpr, TsSatisfiesExpr, TsTypeAssertion};
 use fast_check_tree_forms_statements::{BlockStmt, ReturnStmt};
 use fast_check_tree_syntax::{Kind, Part};

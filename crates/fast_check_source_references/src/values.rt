@@ -3,7 +3,7 @@ use crate::dependencies::{Dependencies, Space};
 use crate::functions::type_of_pattern;
 use crate::names::{UNRESOLVED, computed_of, value_chain};
 use crate::returns::asserted_result;
-use fast_check_source_heights::Waiting;
+use fast_check_source_walks::Waiting;
 use fast_check_tree_forms_classes::{Function, Param, TsParamProp};
 use fast_check_tree_forms_expressions::{
     ArrayLit, ArrowExpr, AssignPat, AssignProp, AwaitExpr, BinExpr, CallExpr, CondExpr,

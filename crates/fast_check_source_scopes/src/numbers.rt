@@ -58,7 +58,7 @@ impl Numbers {
 
 /// A copy of a tree with these numbers.
 #[cycle(copies)]
-#[tactic(auto, using(fast_check_source_heights::proofs::Heights::node_height))]
+#[tactic(auto, using(fast_check_source_walks::proofs::Heights::node_height))]
 pub fn with_numbers(
     alloc: Global,
     tree: &Tree,
@@ -83,7 +83,7 @@ pub fn with_numbers(
 }
 
 #[cycle(copies)]
-#[tactic(auto, using(fast_check_source_heights::proofs::Heights::one_height))]
+#[tactic(auto, using(fast_check_source_walks::proofs::Heights::one_height))]
 fn all_with_numbers(
     alloc: Global,
     trees: &[Tree],

@@ -5,7 +5,7 @@ use crate::binds::{
 };
 use crate::numbers::{Numbered, Numbers, with_numbers};
 use crate::scope::{ANY, GroupNo, NAMESPACE, ScopeNo, Scopes, TYPE, VALUE, number_of};
-use fast_check_source_heights::Waiting;
+use fast_check_source_walks::Waiting;
 use fast_check_tree_forms_classes::{Class, Constructor, Function, StaticBlock};
 use fast_check_tree_forms_expressions::{ArrowExpr, ClassExpr, FnExpr, GetterProp, SetterProp};
 use fast_check_tree_forms_programs::{

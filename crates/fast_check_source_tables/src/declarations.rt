@@ -1,7 +1,7 @@
 //! Declarations.
 use crate::builder::{Binds, Declaration, Flags, PLAIN, SymbolNo, Tables, Target};
 use crate::items::{Task, Way};
-use fast_check_source_heights::Waiting;
+use fast_check_source_walks::Waiting;
 use fast_check_source_references::declared::{declarators, push_bound};
 use fast_check_source_references::dependencies::Dependencies;
 use fast_check_source_references::functions::type_of_pattern;

@@ -1,7 +1,7 @@
 //! The items of a module or of a namespace.
 use crate::builder::{Binds, MODULE, PLAIN, SymbolNo, Tables};
 use crate::declarations::Setting;
-use fast_check_source_heights::Waiting;
+use fast_check_source_walks::Waiting;
 use fast_check_source_references::declared::{
     declaration_of, declared_names, is_declaration, says_exports,
 };

@@ -1,8 +1,8 @@
 use Rattle.std.proofs.Common.{◌≡◌, ◌+◌, ◌*◌, map, drop, take, true}
 use Rattle.std.specs.List.{list_all}
 use Rattle.fast_check_tree_syntax.specs.Height.{height, highest}
-use Rattle.fast_check_source_ranges.specs.Ranges.{is_nested, follow}
-use Rattle.fast_check_source_ranges.proofs.nested.+nested.Given as goal
+use Rattle.fast_check_source_walks.specs.Ranges.{is_nested, follow}
+use Rattle.fast_check_source_walks.proofs.nested.+nested.Given as goal
 
 abbrev pub decreases-is_nested : goal.decreases-is_nested
 decreases-is_nested l = 4 * height l.tree.now

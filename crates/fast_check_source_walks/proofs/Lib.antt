@@ -1,1 +1,2 @@
 pub mod Heights
+mod Levels

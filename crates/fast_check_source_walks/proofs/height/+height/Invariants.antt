@@ -1,6 +1,6 @@
 use Rattle.std.proofs.Common.{◌≤◌, ◌+◌, ◌*◌, map, take}
 use Rattle.fast_check_tree_syntax.specs.Height.{height, highest}
-use Rattle.fast_check_source_heights.proofs.height.+height.Given as goal
+use Rattle.fast_check_source_walks.proofs.height.+height.Given as goal
 
 abbrev pub decreases-is_at_most : goal.decreases-is_at_most
 decreases-is_at_most l = 2 * l.most

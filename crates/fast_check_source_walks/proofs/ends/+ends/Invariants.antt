@@ -1,7 +1,7 @@
 use Rattle.std.proofs.Common.{◌≡◌, ◌+◌, ◌*◌, max, map, drop}
 use Rattle.fast_check_tree_syntax.specs.Height.{height, highest}
-use Rattle.fast_check_source_ranges.specs.Ranges.{end_of}
-use Rattle.fast_check_source_ranges.proofs.ends.+ends.Given as goal
+use Rattle.fast_check_source_walks.specs.Ranges.{end_of}
+use Rattle.fast_check_source_walks.proofs.ends.+ends.Given as goal
 
 abbrev pub decreases-end_of : goal.decreases-end_of
 decreases-end_of l = 2 * height l.tree.now

@@ -1,7 +1,7 @@
 use Rattle.std.proofs.Common.{◌≤◌, refl, sym, rules}
 use Rattle.fast_check_tree_syntax.specs.Height.{height}
-use Rattle.fast_check_source_heights.proofs.Heights.{more_height}
-use Rattle.fast_check_source_heights.proofs.height.+height.Goals as goal
+use Rattle.fast_check_source_walks.proofs.Heights.{more_height}
+use Rattle.fast_check_source_walks.proofs.height.+height.Goals as goal
 
 -- The part that was looked at joins those before it.
 pub are_at_most-loop-tree-preserved : goal.are_at_most-loop-tree-preserved

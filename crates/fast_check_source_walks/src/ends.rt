@@ -1,7 +1,7 @@
 //! Where the last range of a tree ends.
 ghost use Rattle.std.specs.Prelude.{◌≡◌, map};
 ghost use Rattle.fast_check_tree_syntax.specs.Height.{highest};
-ghost use Rattle.fast_check_source_ranges.specs.Ranges.{own_range as own, end_of as last};
+ghost use Rattle.fast_check_source_walks.specs.Ranges.{own_range as own, end_of as last};
 
 use fast_check_tree_syntax::{Kind, SourceRange, Tree};
 
@@ -21,7 +21,7 @@ pub fn own_range(kind: Kind, parts: &[Tree]) -> Option<SourceRange>
 
 /// Where the last range of a tree ends, or 0 where it has none.
 #[cycle(ends)]
-#[tactic(auto, using(crate::proofs::Levels::end_node, crate::proofs::Levels::end_range, crate::proofs::Levels::end_absent, crate::proofs::Levels::end_flag, crate::proofs::Levels::end_context, crate::proofs::Levels::end_text, crate::proofs::Levels::end_word, fast_check_source_heights::proofs::Heights::node_height))]
+#[tactic(auto, using(crate::proofs::Levels::end_node, crate::proofs::Levels::end_range, crate::proofs::Levels::end_absent, crate::proofs::Levels::end_flag, crate::proofs::Levels::end_context, crate::proofs::Levels::end_text, crate::proofs::Levels::end_word, fast_check_source_walks::proofs::Heights::node_height))]
 pub fn end_of(tree: &Tree) -> u32
     ensures { result ≡ last tree.now }
 {
@@ -41,7 +41,7 @@ pub fn end_of(tree: &Tree) -> u32
 
 /// The last place where one of the trees ends.
 #[cycle(ends)]
-#[tactic(auto, using(crate::proofs::Levels::end_more, fast_check_source_heights::proofs::Heights::one_height))]
+#[tactic(auto, using(crate::proofs::Levels::end_more, fast_check_source_walks::proofs::Heights::one_height))]
 fn end_of_all(trees: &[Tree]) -> u32
     ensures { result ≡ highest (map last trees.now) }
 {

@@ -15,7 +15,7 @@ use Rattle.fast_check_tree_syntax.specs.Height.{highest}
 use Rattle.fast_check_tree_syntax.specs.Shape.{is_absent, parts_at}
 use Rattle.fast_check_tree_syntax.proofs.Made.{is_absent_node}
 use Rattle.fast_check_tree_syntax.specs.Recursion.{by_form_is, by_form_absent}
-use Rattle.fast_check_source_ranges.specs.Ranges.{own_range, end_of, end_form, level_end, node_end, is_nested, nested_form, level_lies, node_lies, is_between, follow, Test}
+use Rattle.fast_check_source_walks.specs.Ranges.{own_range, end_of, end_form, level_end, node_end, is_nested, nested_form, level_lies, node_lies, is_between, follow, Test}
 
 end_out : (t : Tree) → is_absent t ≡ false → end_of t ≡ level_end (out-Tree t) (map end_of (parts_at (out-Tree t)))
 unfolding end_of
