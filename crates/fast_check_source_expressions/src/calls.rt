@@ -2,7 +2,7 @@
 ghost use Rattle.fast_check_source_grammar.specs.Nests.{Nests};
 
 use crate::expressions::Expressions;
-use fast_check_source_grammar::{Note, ParseError, Rule, Tokens, ident_name, parsed, private_name};
+use fast_check_source_grammar::{Note, Rule, Tokens, ident_name, private_name};
 use fast_check_source_lexer::TokenKind;
 use fast_check_tree_forms_expressions::{
     CallExpr, MemberExpr, OptCall, OptChainExpr, TaggedTpl, TsInstantiation, TsNonNullExpr,
@@ -40,74 +40,68 @@ fn linked(made: Tree, optional: bool) -> Chain {
     }
 }
 
-impl<F: Fn(Global, &mut Tokens<'_>, usize, Rule) -> Result<Tree, ParseError>> Expressions<F> {
+impl<F: Fn(Global, &mut Tokens<'_>, usize, Rule) -> Tree> Expressions<F> {
     /// A value with members and calls behind it.
-    pub fn postfixed(&self, tokens: &mut Tokens<'_>) -> Result<Tree, ParseError>
+    pub fn postfixed(&self, tokens: &mut Tokens<'_>) -> Tree
         requires { Nests self.now.values.types.grammar.depth (F.pre self.now.values.types.grammar.parse) }
     {
         self.links(tokens, Links::All)
     }
 
     /// The same behind `@`.
-    pub fn decorated(&self, tokens: &mut Tokens<'_>) -> Result<Tree, ParseError>
+    pub fn decorated(&self, tokens: &mut Tokens<'_>) -> Tree
         requires { Nests self.now.values.types.grammar.depth (F.pre self.now.values.types.grammar.parse) }
     {
         self.links(tokens, Links::Decorated)
     }
 
     /// What a class extends.
-    pub fn heir(&self, tokens: &mut Tokens<'_>) -> Result<Tree, ParseError>
+    pub fn heir(&self, tokens: &mut Tokens<'_>) -> Tree
         requires { Nests self.now.values.types.grammar.depth (F.pre self.now.values.types.grammar.parse) }
     {
         self.links(tokens, Links::Heir)
     }
 
     /// The callee of `new`.
-    pub fn constructor_value(&self, tokens: &mut Tokens<'_>) -> Result<Tree, ParseError>
+    pub fn constructor_value(&self, tokens: &mut Tokens<'_>) -> Tree
         requires { Nests self.now.values.types.grammar.depth (F.pre self.now.values.types.grammar.parse) }
     {
         self.links(tokens, Links::Constructed)
     }
 
-    fn links(&self, tokens: &mut Tokens<'_>, links: Links) -> Result<Tree, ParseError>
+    fn links(&self, tokens: &mut Tokens<'_>, links: Links) -> Tree
         requires { Nests self.now.values.types.grammar.depth (F.pre self.now.values.types.grammar.parse) }
     {
         let start = tokens.at.start();
-        let mut chain = linked(self.values.value(tokens)?, false);
+        let mut chain = linked(self.values.value(tokens), false);
         for _turn in 0..tokens.at.left() {
-            chain = self.link(tokens, start, chain, links)?;
+            chain = self.link(tokens, start, chain, links);
             if chain.ended {
                 break;
             }
             // A link of an optional chain is two nodes.
-            tokens.link()?;
-            tokens.link()?;
+            tokens.link();
+            tokens.link();
         }
-        Ok(chain.made)
+        chain.made
     }
 
     // One more member, call, mark or template.
-    fn link(
-        &self,
-        tokens: &mut Tokens<'_>,
-        start: SourcePos,
-        chain: Chain,
-        links: Links,
-    ) -> Result<Chain, ParseError>
+    fn link(&self, tokens: &mut Tokens<'_>, start: SourcePos, chain: Chain, links: Links) -> Chain
         requires { Nests self.now.values.types.grammar.depth (F.pre self.now.values.types.grammar.parse) }
     {
         let Chain { made, optional, .. } = chain;
         match tokens.at.kind() {
             TokenKind::Dot => {
-                let found = self.dotted(tokens, start, made)?;
+                let found = self.dotted(tokens, start, made);
                 self.chained(tokens, start, found, optional)
             }
             TokenKind::LBracket if links != Links::Decorated => {
-                let found = self.indexed(tokens, start, made)?;
+                let found = self.indexed(tokens, start, made);
                 self.chained(tokens, start, found, optional)
             }
             TokenKind::LParen if links != Links::Constructed => {
-                let found = self.called(tokens, start, made, Tree::Absent, optional)?;
+                let found = self.called(tokens, start, made, Tree::Absent, optional);
                 self.chained(tokens, start, found, optional)
             }
             TokenKind::OptionalChain if links != Links::Constructed => self.optional_link(
@@ -122,19 +116,18 @@ impl<F: Fn(Global, &mut Tokens<'_>, usize, Rule) -> Result<Tree, ParseError>> Ex
             TokenKind::Not if !tokens.at.newline() => {
                 tokens.at.advance();
                 let span = tokens.at.from(start);
-                let made = TsNonNullExpr { span, expr: made }.into_tree(
-                    self.values.types.grammar.alloc,
-                )?;
-                Ok(linked(made, optional))
+                let made = TsNonNullExpr { span, expr: made };
+                let made = tokens.made(made.into_tree(self.values.types.grammar.alloc));
+                linked(made, optional)
             }
             TokenKind::Less | TokenKind::LeftShift if links != Links::Constructed => {
                 self.argued(tokens, start, made, optional, links)
             }
-            _ => Ok(Chain {
+            _ => Chain {
                 made,
                 optional,
                 ended: true,
-            }),
+            },
         }
     }
 
@@ -145,87 +138,78 @@ impl<F: Fn(Global, &mut Tokens<'_>, usize, Rule) -> Result<Tree, ParseError>> Ex
         start: SourcePos,
         base: Tree,
         optional: bool,
-    ) -> Result<Chain, ParseError> {
+    ) -> Chain {
         if !optional {
-            return Ok(linked(base, false));
+            return linked(base, false);
         }
         let made = OptChainExpr {
             span: tokens.at.from(start),
             optional: false,
             base,
         };
-        Ok(linked(made.into_tree(self.values.types.grammar.alloc)?, true))
+        linked(
+            tokens.made(made.into_tree(self.values.types.grammar.alloc)),
+            true,
+        )
     }
 
     // `?.a`, `?.[a]` or `?.(a)`
-    fn optional_link(
-        &self,
-        tokens: &mut Tokens<'_>,
-        start: SourcePos,
-        made: Tree,
-    ) -> Result<Chain, ParseError>
+    fn optional_link(&self, tokens: &mut Tokens<'_>, start: SourcePos, made: Tree) -> Chain
         requires { Nests self.now.values.types.grammar.depth (F.pre self.now.values.types.grammar.parse) }
     {
         let next = tokens.at.second().kind();
         let base = match next {
             TokenKind::LParen | TokenKind::Less | TokenKind::LeftShift => {
                 tokens.at.advance();
-                let args = self.values.types.type_args(tokens)?;
+                let args = self.values.types.type_args(tokens);
                 if !tokens.at.is(TokenKind::LParen) {
-                    return Err(tokens.at.refuse());
+                    let _ = tokens.refuse();
                 }
-                self.called(tokens, start, made, args, true)?
+                self.called(tokens, start, made, args, true)
             }
             TokenKind::LBracket => {
                 tokens.at.advance();
-                self.indexed(tokens, start, made)?
+                self.indexed(tokens, start, made)
             }
-            _ => self.dotted(tokens, start, made)?,
+            _ => self.dotted(tokens, start, made),
         };
         let made = OptChainExpr {
             span: tokens.at.from(start),
             optional: true,
             base,
         };
-        Ok(linked(made.into_tree(self.values.types.grammar.alloc)?, true))
+        linked(
+            tokens.made(made.into_tree(self.values.types.grammar.alloc)),
+            true,
+        )
     }
 
     // Behind a `.` or `?.` that comes next.
-    fn dotted(
-        &self,
-        tokens: &mut Tokens<'_>,
-        start: SourcePos,
-        obj: Tree,
-    ) -> Result<Tree, ParseError> {
+    fn dotted(&self, tokens: &mut Tokens<'_>, start: SourcePos, obj: Tree) -> Tree {
         tokens.at.advance();
         let alloc = self.values.types.grammar.alloc;
         let prop = if tokens.at.is(TokenKind::PrivateName) {
-            private_name(alloc, tokens)?
+            private_name(alloc, tokens)
         } else {
-            ident_name(alloc, tokens)?
+            ident_name(alloc, tokens)
         };
         let made = MemberExpr {
             span: tokens.at.from(start),
             obj,
             prop,
         };
-        parsed(made.into_tree(alloc))
+        tokens.made(made.into_tree(alloc))
     }
 
-    fn indexed(
-        &self,
-        tokens: &mut Tokens<'_>,
-        start: SourcePos,
-        obj: Tree,
-    ) -> Result<Tree, ParseError>
+    fn indexed(&self, tokens: &mut Tokens<'_>, start: SourcePos, obj: Tree) -> Tree
         requires { Nests self.now.values.types.grammar.depth (F.pre self.now.values.types.grammar.parse) }
     {
         let made = MemberExpr {
             obj,
-            prop: self.values.computed(tokens)?,
+            prop: self.values.computed(tokens),
             span: tokens.at.from(start),
         };
-        parsed(made.into_tree(self.values.types.grammar.alloc))
+        tokens.made(made.into_tree(self.values.types.grammar.alloc))
     }
 
     // `(a, b)` behind a callee and its type arguments.
@@ -236,7 +220,7 @@ impl<F: Fn(Global, &mut Tokens<'_>, usize, Rule) -> Result<Tree, ParseError>> Ex
         callee: Tree,
         type_args: Tree,
         optional: bool,
-    ) -> Result<Tree, ParseError>
+    ) -> Tree
         requires { Nests self.now.values.types.grammar.depth (F.pre self.now.values.types.grammar.parse) }
     {
         tokens.at.advance();
@@ -246,7 +230,7 @@ impl<F: Fn(Global, &mut Tokens<'_>, usize, Rule) -> Result<Tree, ParseError>> Ex
             Rule::Argument,
             TokenKind::Comma,
             TokenKind::RParen,
-        )?;
+        );
         let span = tokens.at.from(start);
         let ctxt = SyntaxContext(0);
         let made = if optional {
@@ -268,7 +252,7 @@ impl<F: Fn(Global, &mut Tokens<'_>, usize, Rule) -> Result<Tree, ParseError>> Ex
             }
             .into_tree(alloc)
         };
-        parsed(made)
+        tokens.made(made)
     }
 
     // A template behind its tag.
@@ -278,17 +262,20 @@ impl<F: Fn(Global, &mut Tokens<'_>, usize, Rule) -> Result<Tree, ParseError>> Ex
         start: SourcePos,
         tag: Tree,
         type_params: Tree,
-    ) -> Result<Chain, ParseError>
+    ) -> Chain
         requires { Nests self.now.values.types.grammar.depth (F.pre self.now.values.types.grammar.parse) }
     {
         let made = TaggedTpl {
             ctxt: SyntaxContext(0),
             tag,
             type_params,
-            tpl: self.values.template(tokens)?,
+            tpl: self.values.template(tokens),
             span: tokens.at.from(start),
         };
-        Ok(linked(made.into_tree(self.values.types.grammar.alloc)?, false))
+        linked(
+            tokens.made(made.into_tree(self.values.types.grammar.alloc)),
+            false,
+        )
     }
 
     // Type arguments, and the call or the template behind them.
@@ -299,31 +286,31 @@ impl<F: Fn(Global, &mut Tokens<'_>, usize, Rule) -> Result<Tree, ParseError>> Ex
         made: Tree,
         optional: bool,
         links: Links,
-    ) -> Result<Chain, ParseError>
+    ) -> Chain
         requires { Nests self.now.values.types.grammar.depth (F.pre self.now.values.types.grammar.parse) }
     {
-        let saved = tokens.at;
-        let Some(args) = self.values.value_args(tokens)? else {
-            return Ok(Chain {
+        let saved = tokens.save();
+        let Some(args) = self.values.value_args(tokens) else {
+            return Chain {
                 made,
                 optional,
                 ended: true,
-            });
+            };
         };
         match tokens.at.kind() {
             TokenKind::LParen => {
-                let found = self.called(tokens, start, made, args, optional)?;
+                let found = self.called(tokens, start, made, args, optional);
                 self.chained(tokens, start, found, optional)
             }
             TokenKind::Template | TokenKind::TemplateHead => self.tagged(tokens, start, made, args),
             _ if links == Links::Heir => {
-                tokens.note(Note::NoArgs, saved.place())?;
-                tokens.at = saved;
-                Ok(Chain {
+                tokens.note(Note::NoArgs, saved.at.place());
+                tokens.go_back(saved);
+                Chain {
                     made,
                     optional,
                     ended: true,
-                })
+                }
             }
             _ => {
                 let found = TsInstantiation {
@@ -331,7 +318,10 @@ impl<F: Fn(Global, &mut Tokens<'_>, usize, Rule) -> Result<Tree, ParseError>> Ex
                     expr: made,
                     type_args: args,
                 };
-                Ok(linked(found.into_tree(self.values.types.grammar.alloc)?, optional))
+                linked(
+                    tokens.made(found.into_tree(self.values.types.grammar.alloc)),
+                    optional,
+                )
             }
         }
     }

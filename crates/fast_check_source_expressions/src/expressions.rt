@@ -2,11 +2,11 @@
 ghost use Rattle.fast_check_source_grammar.specs.Nests.{Nests};
 
 use crate::look_ahead::{assigns, is_operand_in_line};
-use fast_check_source_grammar::{Cursor, Note, ParseError, Rule, Tokens, parsed};
+use fast_check_source_grammar::{Cursor, Note, Rule, Tokens, Trees};
 use fast_check_source_lexer::{Keyword, TokenKind};
 use fast_check_source_values::{Values, is_shape, starts_value};
 use fast_check_tree_forms_expressions::{AssignExpr, CondExpr, ExprOrSpread, SeqExpr, YieldExpr};
-use fast_check_tree_syntax::{Items, Kind, SourcePos, Tree};
+use fast_check_tree_syntax::{Kind, SourcePos, Tree};
 use std::alloc::Global;
 
 /// The rules of expressions.
@@ -38,59 +38,59 @@ fn is_operated(tree: &Tree) -> bool {
     }
 }
 
-impl<F: Fn(Global, &mut Tokens<'_>, usize, Rule) -> Result<Tree, ParseError>> Expressions<F> {
+impl<F: Fn(Global, &mut Tokens<'_>, usize, Rule) -> Tree> Expressions<F> {
     /// Expressions with commas between them.
-    pub fn expression(&self, tokens: &mut Tokens<'_>) -> Result<Tree, ParseError>
+    pub fn expression(&self, tokens: &mut Tokens<'_>) -> Tree
         requires { Nests self.now.values.types.grammar.depth (F.pre self.now.values.types.grammar.parse) }
     {
         let start = tokens.at.start();
-        let first = self.assigned(tokens, false)?;
+        let first = self.assigned(tokens, false);
         if !tokens.at.is(TokenKind::Comma) {
-            return Ok(first);
+            return first;
         }
-        let mut exprs = Items::new(self.values.types.grammar.alloc);
-        exprs.push(first)?;
+        let mut exprs = Trees::new(self.values.types.grammar.alloc);
+        exprs.push(first);
         for _turn in 0..tokens.at.left() {
             if !tokens.at.eat(TokenKind::Comma) {
                 break;
             }
-            exprs.push(self.values.types.grammar.again(tokens, Rule::Assigned)?)?;
+            exprs.push(self.values.types.grammar.again(tokens, Rule::Assigned));
         }
         let made = SeqExpr {
             span: tokens.at.from(start),
-            exprs: Tree::list(exprs),
+            exprs: tokens.list(exprs),
         };
-        parsed(made.into_tree(self.values.types.grammar.alloc))
+        tokens.made(made.into_tree(self.values.types.grammar.alloc))
     }
 
     /// An expression without a comma. Between `?` and `:` an arrow function with a written result wants a `:` behind it.
-    pub fn assigned(&self, tokens: &mut Tokens<'_>, in_branch: bool) -> Result<Tree, ParseError>
+    pub fn assigned(&self, tokens: &mut Tokens<'_>, in_branch: bool) -> Tree
         requires { Nests self.now.values.types.grammar.depth (F.pre self.now.values.types.grammar.parse) }
     {
         if yields(tokens.at) {
             return self.yielded(tokens);
         }
-        match self.arrow(tokens, in_branch)? {
-            Some(arrow) => Ok(arrow),
+        match self.arrow(tokens, in_branch) {
+            Some(arrow) => arrow,
             None => self.operation(tokens, in_branch),
         }
     }
 
     // Operators, a choice or an assignment.
-    fn operation(&self, tokens: &mut Tokens<'_>, in_branch: bool) -> Result<Tree, ParseError>
+    fn operation(&self, tokens: &mut Tokens<'_>, in_branch: bool) -> Tree
         requires { Nests self.now.values.types.grammar.depth (F.pre self.now.values.types.grammar.parse) }
     {
         let start = tokens.at.start();
         if tokens.is_noted(Note::Target) {
             return self.pattern_assignment(tokens);
         }
-        let saved = tokens.at;
-        let left = self.operand(tokens, 1)?;
+        let saved = tokens.save();
+        let left = self.operand(tokens, 1);
         tokens.at.rescan_operator();
         if assigns(tokens.at.kind()) && !is_operated(&left) {
             if tokens.at.is(TokenKind::Assign) && is_shape(&left) {
-                tokens.at = saved;
-                tokens.note(Note::Target, saved.place())?;
+                tokens.go_back(saved);
+                tokens.note(Note::Target, saved.at.place());
                 return self.pattern_assignment(tokens);
             }
             return self.assignment(tokens, start, left);
@@ -98,54 +98,45 @@ impl<F: Fn(Global, &mut Tokens<'_>, usize, Rule) -> Result<Tree, ParseError>> Ex
         if tokens.at.is(TokenKind::Question) {
             return self.choice(tokens, start, left, in_branch);
         }
-        Ok(left)
+        left
     }
 
     // `= value` or `+= value` behind a target.
-    fn assignment(
-        &self,
-        tokens: &mut Tokens<'_>,
-        start: SourcePos,
-        left: Tree,
-    ) -> Result<Tree, ParseError>
+    fn assignment(&self, tokens: &mut Tokens<'_>, start: SourcePos, left: Tree) -> Tree
         requires { Nests self.now.values.types.grammar.depth (F.pre self.now.values.types.grammar.parse) }
     {
-        let op = tokens.operator(self.values.types.grammar.alloc)?;
+        let Some(op) = tokens.operator(self.values.types.grammar.alloc) else {
+            return Tree::Absent;
+        };
         tokens.at.advance();
         let made = AssignExpr {
             op,
             left,
-            right: self.values.types.grammar.again(tokens, Rule::Assigned)?,
+            right: self.values.types.grammar.again(tokens, Rule::Assigned),
             span: tokens.at.from(start),
         };
-        parsed(made.into_tree(self.values.types.grammar.alloc))
+        tokens.made(made.into_tree(self.values.types.grammar.alloc))
     }
 
     // `[a, b] = value`
-    fn pattern_assignment(&self, tokens: &mut Tokens<'_>) -> Result<Tree, ParseError>
+    fn pattern_assignment(&self, tokens: &mut Tokens<'_>) -> Tree
         requires { Nests self.now.values.types.grammar.depth (F.pre self.now.values.types.grammar.parse) }
     {
         let start = tokens.at.start();
-        let left = self.values.assigned_shape(tokens)?;
+        let left = self.values.assigned_shape(tokens);
         if !tokens.at.is(TokenKind::Assign) {
-            return Err(tokens.at.refuse());
+            return tokens.refuse();
         }
         self.assignment(tokens, start, left)
     }
 
     // `? a : b` behind a test.
-    fn choice(
-        &self,
-        tokens: &mut Tokens<'_>,
-        start: SourcePos,
-        test: Tree,
-        in_branch: bool,
-    ) -> Result<Tree, ParseError>
+    fn choice(&self, tokens: &mut Tokens<'_>, start: SourcePos, test: Tree, in_branch: bool) -> Tree
         requires { Nests self.now.values.types.grammar.depth (F.pre self.now.values.types.grammar.parse) }
     {
         tokens.at.advance();
-        let cons = self.values.types.grammar.again(tokens, Rule::Branch)?;
-        tokens.at.expect(TokenKind::Colon)?;
+        let cons = self.values.types.grammar.again(tokens, Rule::Branch);
+        tokens.expect(TokenKind::Colon);
         let rule = if in_branch {
             Rule::Branch
         } else {
@@ -154,20 +145,20 @@ impl<F: Fn(Global, &mut Tokens<'_>, usize, Rule) -> Result<Tree, ParseError>> Ex
         let made = CondExpr {
             test,
             cons,
-            alt: self.values.types.grammar.again(tokens, rule)?,
+            alt: self.values.types.grammar.again(tokens, rule),
             span: tokens.at.from(start),
         };
-        parsed(made.into_tree(self.values.types.grammar.alloc))
+        tokens.made(made.into_tree(self.values.types.grammar.alloc))
     }
 
-    fn yielded(&self, tokens: &mut Tokens<'_>) -> Result<Tree, ParseError>
+    fn yielded(&self, tokens: &mut Tokens<'_>) -> Tree
         requires { Nests self.now.values.types.grammar.depth (F.pre self.now.values.types.grammar.parse) }
     {
         let start = tokens.at.start();
         tokens.at.advance();
         let delegate = !tokens.at.newline() && tokens.at.eat(TokenKind::Star);
         let arg = if delegate || (!tokens.at.newline() && starts_value(tokens.at)) {
-            self.values.types.grammar.again(tokens, Rule::Assigned)?
+            self.values.types.grammar.again(tokens, Rule::Assigned)
         } else {
             Tree::Absent
         };
@@ -176,11 +167,11 @@ impl<F: Fn(Global, &mut Tokens<'_>, usize, Rule) -> Result<Tree, ParseError>> Ex
             arg,
             delegate,
         };
-        parsed(made.into_tree(self.values.types.grammar.alloc))
+        tokens.made(made.into_tree(self.values.types.grammar.alloc))
     }
 
     /// An argument of a call, or an element of an array.
-    pub fn argument(&self, tokens: &mut Tokens<'_>) -> Result<Tree, ParseError>
+    pub fn argument(&self, tokens: &mut Tokens<'_>) -> Tree
         requires { Nests self.now.values.types.grammar.depth (F.pre self.now.values.types.grammar.parse) }
     {
         let start = tokens.at.start();
@@ -189,7 +180,7 @@ impl<F: Fn(Global, &mut Tokens<'_>, usize, Rule) -> Result<Tree, ParseError>> Ex
         } else {
             Tree::Absent
         };
-        let expr = self.assigned(tokens, false)?;
-        parsed(ExprOrSpread { spread, expr }.into_tree(self.values.types.grammar.alloc))
+        let expr = self.assigned(tokens, false);
+        tokens.made(ExprOrSpread { spread, expr }.into_tree(self.values.types.grammar.alloc))
     }
 }

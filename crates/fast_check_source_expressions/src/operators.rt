@@ -3,7 +3,7 @@ ghost use Rattle.fast_check_source_grammar.specs.Nests.{Nests};
 
 use crate::expressions::Expressions;
 use crate::look_ahead::is_operand_in_line;
-use fast_check_source_grammar::{Cursor, ParseError, Rule, Tokens, parsed, private_name};
+use fast_check_source_grammar::{Cursor, Rule, Tokens, private_name};
 use fast_check_source_lexer::{Keyword, TokenKind};
 use fast_check_source_values::{binds, starts_value};
 use fast_check_tree_forms_expressions::{
@@ -37,16 +37,16 @@ fn awaits(at: Cursor<'_>) -> bool {
         || (!within.function && !next.newline() && starts_value(next) && binds(next) == 0)
 }
 
-impl<F: Fn(Global, &mut Tokens<'_>, usize, Rule) -> Result<Tree, ParseError>> Expressions<F> {
+impl<F: Fn(Global, &mut Tokens<'_>, usize, Rule) -> Tree> Expressions<F> {
     /// Operators that bind as tight as `least`, or tighter.
-    pub fn operand(&self, tokens: &mut Tokens<'_>, least: u8) -> Result<Tree, ParseError>
+    pub fn operand(&self, tokens: &mut Tokens<'_>, least: u8) -> Tree
         requires { Nests self.now.values.types.grammar.depth (F.pre self.now.values.types.grammar.parse) }
     {
         let start = tokens.at.start();
         let mut left = if tokens.at.is(TokenKind::PrivateName) {
-            private_name(self.values.types.grammar.alloc, tokens)?
+            private_name(self.values.types.grammar.alloc, tokens)
         } else {
-            self.unary(tokens)?
+            self.unary(tokens)
         };
         for _turn in 0..tokens.at.left() {
             tokens.at.rescan_operator();
@@ -54,26 +54,22 @@ impl<F: Fn(Global, &mut Tokens<'_>, usize, Rule) -> Result<Tree, ParseError>> Ex
             if level < least || level == 0 || tokens.stops_at_in() {
                 break;
             }
-            tokens.link()?;
-            left = self.operated(tokens, start, left, level)?;
+            tokens.link();
+            left = self.operated(tokens, start, left, level);
         }
-        Ok(left)
+        left
     }
 
     // An operator behind its left side, with its right side.
-    fn operated(
-        &self,
-        tokens: &mut Tokens<'_>,
-        start: SourcePos,
-        left: Tree,
-        level: u8,
-    ) -> Result<Tree, ParseError>
+    fn operated(&self, tokens: &mut Tokens<'_>, start: SourcePos, left: Tree, level: u8) -> Tree
         requires { Nests self.now.values.types.grammar.depth (F.pre self.now.values.types.grammar.parse) }
     {
         if tokens.at.is_word(Keyword::As) || tokens.at.is_word(Keyword::Satisfies) {
             return self.asserted(tokens, start, left);
         }
-        let op = tokens.operator(self.values.types.grammar.alloc)?;
+        let Some(op) = tokens.operator(self.values.types.grammar.alloc) else {
+            return Tree::Absent;
+        };
         tokens.at.advance();
         let least = if level == 12 {
             12
@@ -87,19 +83,14 @@ impl<F: Fn(Global, &mut Tokens<'_>, usize, Rule) -> Result<Tree, ParseError>> Ex
                 .values
                 .types
                 .grammar
-                .again(tokens, Rule::Operand(least))?,
+                .again(tokens, Rule::Operand(least)),
             span: tokens.at.from(start),
         };
-        parsed(made.into_tree(self.values.types.grammar.alloc))
+        tokens.made(made.into_tree(self.values.types.grammar.alloc))
     }
 
     // `as A`, `satisfies A` or `as const` behind a value.
-    fn asserted(
-        &self,
-        tokens: &mut Tokens<'_>,
-        start: SourcePos,
-        expr: Tree,
-    ) -> Result<Tree, ParseError>
+    fn asserted(&self, tokens: &mut Tokens<'_>, start: SourcePos, expr: Tree) -> Tree
         requires { Nests self.now.values.types.grammar.depth (F.pre self.now.values.types.grammar.parse) }
     {
         let is_as = tokens.at.is_word(Keyword::As);
@@ -107,9 +98,9 @@ impl<F: Fn(Global, &mut Tokens<'_>, usize, Rule) -> Result<Tree, ParseError>> Ex
         let alloc = self.values.types.grammar.alloc;
         if tokens.at.eat_word(Keyword::Const) {
             let span = tokens.at.from(start);
-            return parsed(TsConstAssertion { span, expr }.into_tree(alloc));
+            return tokens.made(TsConstAssertion { span, expr }.into_tree(alloc));
         }
-        let type_ann = self.values.types.grammar.again(tokens, Rule::Type)?;
+        let type_ann = self.values.types.grammar.again(tokens, Rule::Type);
         let span = tokens.at.from(start);
         let made = if is_as {
             TsAsExpr {
@@ -126,44 +117,46 @@ impl<F: Fn(Global, &mut Tokens<'_>, usize, Rule) -> Result<Tree, ParseError>> Ex
             }
             .into_tree(alloc)
         };
-        parsed(made)
+        tokens.made(made)
     }
 
     /// A value with an operator before it or behind it.
-    pub fn unary(&self, tokens: &mut Tokens<'_>) -> Result<Tree, ParseError>
+    pub fn unary(&self, tokens: &mut Tokens<'_>) -> Tree
         requires { Nests self.now.values.types.grammar.depth (F.pre self.now.values.types.grammar.parse) }
     {
         let made = if is_prefix(tokens.at) {
-            self.prefixed(tokens)?
+            self.prefixed(tokens)
         } else if awaits(tokens.at) {
-            self.awaited(tokens)?
+            self.awaited(tokens)
         } else if tokens.at.is(TokenKind::Less) && !tokens.at.within().jsx {
-            self.type_assertion(tokens)?
+            self.type_assertion(tokens)
         } else {
             return self.updated(tokens);
         };
         if tokens.at.is(TokenKind::Power) {
-            Err(tokens.at.refuse())
+            tokens.refuse()
         } else {
-            Ok(made)
+            made
         }
     }
 
-    fn prefixed(&self, tokens: &mut Tokens<'_>) -> Result<Tree, ParseError>
+    fn prefixed(&self, tokens: &mut Tokens<'_>) -> Tree
         requires { Nests self.now.values.types.grammar.depth (F.pre self.now.values.types.grammar.parse) }
     {
         let start = tokens.at.start();
-        let op = tokens.operator(self.values.types.grammar.alloc)?;
+        let Some(op) = tokens.operator(self.values.types.grammar.alloc) else {
+            return Tree::Absent;
+        };
         tokens.at.advance();
         let made = UnaryExpr {
             op,
-            arg: self.values.types.grammar.again(tokens, Rule::Unary)?,
+            arg: self.values.types.grammar.again(tokens, Rule::Unary),
             span: tokens.at.from(start),
         };
-        parsed(made.into_tree(self.values.types.grammar.alloc))
+        tokens.made(made.into_tree(self.values.types.grammar.alloc))
     }
 
-    fn awaited(&self, tokens: &mut Tokens<'_>) -> Result<Tree, ParseError>
+    fn awaited(&self, tokens: &mut Tokens<'_>) -> Tree
         requires { Nests self.now.values.types.grammar.depth (F.pre self.now.values.types.grammar.parse) }
     {
         let start = tokens.at.start();
@@ -172,14 +165,14 @@ impl<F: Fn(Global, &mut Tokens<'_>, usize, Rule) -> Result<Tree, ParseError>> Ex
         }
         tokens.at.advance();
         let made = AwaitExpr {
-            arg: self.values.types.grammar.again(tokens, Rule::Unary)?,
+            arg: self.values.types.grammar.again(tokens, Rule::Unary),
             span: tokens.at.from(start),
         };
-        parsed(made.into_tree(self.values.types.grammar.alloc))
+        tokens.made(made.into_tree(self.values.types.grammar.alloc))
     }
 
     // `<A>value` or `<const>value`
-    fn type_assertion(&self, tokens: &mut Tokens<'_>) -> Result<Tree, ParseError>
+    fn type_assertion(&self, tokens: &mut Tokens<'_>) -> Tree
         requires { Nests self.now.values.types.grammar.depth (F.pre self.now.values.types.grammar.parse) }
     {
         let start = tokens.at.start();
@@ -189,43 +182,47 @@ impl<F: Fn(Global, &mut Tokens<'_>, usize, Rule) -> Result<Tree, ParseError>> Ex
             tokens.at.advance();
             tokens.at.advance();
             let made = TsConstAssertion {
-                expr: self.values.types.grammar.again(tokens, Rule::Unary)?,
+                expr: self.values.types.grammar.again(tokens, Rule::Unary),
                 span: tokens.at.from(start),
             };
-            return parsed(made.into_tree(alloc));
+            return tokens.made(made.into_tree(alloc));
         }
-        let type_ann = self.values.types.grammar.again(tokens, Rule::Type)?;
-        tokens.at.expect(TokenKind::Greater)?;
+        let type_ann = self.values.types.grammar.again(tokens, Rule::Type);
+        tokens.expect(TokenKind::Greater);
         let made = TsTypeAssertion {
-            expr: self.values.types.grammar.again(tokens, Rule::Unary)?,
+            expr: self.values.types.grammar.again(tokens, Rule::Unary),
             type_ann,
             span: tokens.at.from(start),
         };
-        parsed(made.into_tree(alloc))
+        tokens.made(made.into_tree(alloc))
     }
 
     // `++a`, `a++` or a value without an operator.
-    fn updated(&self, tokens: &mut Tokens<'_>) -> Result<Tree, ParseError>
+    fn updated(&self, tokens: &mut Tokens<'_>) -> Tree
         requires { Nests self.now.values.types.grammar.depth (F.pre self.now.values.types.grammar.parse) }
     {
         let start = tokens.at.start();
         let alloc = self.values.types.grammar.alloc;
         if is_update(tokens.at) {
-            let op = tokens.operator(alloc)?;
+            let Some(op) = tokens.operator(alloc) else {
+                return Tree::Absent;
+            };
             tokens.at.advance();
             let made = UpdateExpr {
                 op,
                 prefix: true,
-                arg: self.values.types.grammar.again(tokens, Rule::Postfixed)?,
+                arg: self.values.types.grammar.again(tokens, Rule::Postfixed),
                 span: tokens.at.from(start),
             };
-            return parsed(made.into_tree(alloc));
+            return tokens.made(made.into_tree(alloc));
         }
-        let arg = self.postfixed(tokens)?;
+        let arg = self.postfixed(tokens);
         if tokens.at.newline() || !is_update(tokens.at) {
-            return Ok(arg);
+            return arg;
         }
-        let op = tokens.operator(alloc)?;
+        let Some(op) = tokens.operator(alloc) else {
+            return Tree::Absent;
+        };
         tokens.at.advance();
         let made = UpdateExpr {
             span: tokens.at.from(start),
@@ -233,6 +230,6 @@ impl<F: Fn(Global, &mut Tokens<'_>, usize, Rule) -> Result<Tree, ParseError>> Ex
             prefix: false,
             arg,
         };
-        parsed(made.into_tree(alloc))
+        tokens.made(made.into_tree(alloc))
     }
 }

@@ -1,7 +1,6 @@
 //! A cursor over the tokens of a text.
 ghost use Rattle.std.specs.Prelude.{◌≤◌, length};
 
-use crate::error::ParseError;
 use fast_check_source_lexer::{Keyword, Source, Token, TokenKind, keyword_of};
 use fast_check_tree_syntax::{Atom, SourcePos, SourceRange};
 use std::alloc::{AllocError, Global};
@@ -149,38 +148,28 @@ impl<'a> Cursor<'a> {
         found
     }
 
-    pub fn expect(&mut self, kind: TokenKind) -> Result<(), ParseError> {
-        if self.eat(kind) {
-            Ok(())
-        } else {
-            Err(self.refuse())
-        }
-    }
-
-    pub fn expect_word(&mut self, word: Keyword) -> Result<(), ParseError> {
-        if self.eat_word(word) {
-            Ok(())
-        } else {
-            Err(self.refuse())
-        }
-    }
-
-    /// Passes what ends a statement: a `;`, a `}` or the end that comes next, or a line's end.
-    pub fn end_statement(&mut self) -> Result<(), ParseError> {
-        if self.eat(TokenKind::Semicolon) || self.can_end() {
-            Ok(())
-        } else {
-            Err(self.refuse())
-        }
-    }
-
     /// Whether a statement may end before the next token, with no `;`.
     pub fn can_end(&self) -> bool {
         self.newline() || matches!(self.kind(), TokenKind::RBrace | TokenKind::End)
     }
 
-    pub fn refuse(&self) -> ParseError {
-        ParseError::Unexpected(self.start())
+    /// Whether a closing mark or the end of the text comes next.
+    pub fn closes(&self, close: TokenKind) -> bool {
+        self.is(close) || self.is(TokenKind::End)
+    }
+
+    /// Goes on to the end of the text.
+    pub fn pass_all(&mut self) {
+        let end = self.source.text().len();
+        let token = self.source.scan(end);
+        *self = Cursor {
+            source: self.source,
+            token,
+            word: word_in(self.source, token),
+            before: end,
+            within: self.within,
+            high: self.high,
+        };
     }
 
     /// Where the next token begins.

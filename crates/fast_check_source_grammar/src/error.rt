@@ -1,6 +1,6 @@
 //! What stops the parser.
-use fast_check_tree_syntax::{SourcePos, Tree};
-use std::alloc::{AllocError, AllocFailed};
+use fast_check_tree_syntax::SourcePos;
+use std::alloc::AllocError;
 
 /// Why a text is not parsed.
 #[derive(Clone, Copy, PartialEq, Eq, Debug)]
@@ -19,15 +19,4 @@ impl From<AllocError> for ParseError {
     fn from(_error: AllocError) -> ParseError {
         ParseError::Memory
     }
-}
-
-impl<T: Drop> From<AllocFailed<T>> for ParseError {
-    fn from(_error: AllocFailed<T>) -> ParseError {
-        ParseError::Memory
-    }
-}
-
-/// What a rule answers of a tree that was made.
-pub fn parsed(tree: Result<Tree, AllocError>) -> Result<Tree, ParseError> {
-    Ok(tree?)
 }

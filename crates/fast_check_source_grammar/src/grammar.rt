@@ -2,10 +2,10 @@
 ghost use Rattle.fast_check_source_grammar.specs.Nests.{Nests};
 
 use crate::cursor::Within;
-use crate::error::ParseError;
 use crate::tokens::Tokens;
+use crate::trees::Trees;
 use fast_check_source_lexer::TokenKind;
-use fast_check_tree_syntax::{Items, Tree};
+use fast_check_tree_syntax::Tree;
 use std::alloc::Global;
 
 /// What to parse.
@@ -93,9 +93,9 @@ pub struct Grammar<F> {
     pub parse: F,
 }
 
-impl<F: Fn(Global, &mut Tokens<'_>, usize, Rule) -> Result<Tree, ParseError>> Grammar<F> {
+impl<F: Fn(Global, &mut Tokens<'_>, usize, Rule) -> Tree> Grammar<F> {
     /// The tree of a nested rule.
-    pub fn again(&self, tokens: &mut Tokens<'_>, rule: Rule) -> Result<Tree, ParseError>
+    pub fn again(&self, tokens: &mut Tokens<'_>, rule: Rule) -> Tree
         requires { Nests self.now.depth (F.pre self.now.parse) }
     {
         let outer = tokens.at.set_high(0);
@@ -106,9 +106,13 @@ impl<F: Fn(Global, &mut Tokens<'_>, usize, Rule) -> Result<Tree, ParseError>> Gr
         let high = tokens.at.high().saturating_add(OWN);
         let _ = tokens.at.set_high(outer.max(high));
         if high > MAX_HEIGHT {
-            return Err(ParseError::TooDeep(tokens.at.start()));
+            tokens.refuse_depth();
         }
-        found
+        if tokens.is_stopped() {
+            Tree::Absent
+        } else {
+            found
+        }
     }
 
     /// The trees of a rule up to a closing mark, with a mark between them.
@@ -118,32 +122,31 @@ impl<F: Fn(Global, &mut Tokens<'_>, usize, Rule) -> Result<Tree, ParseError>> Gr
         rule: Rule,
         between: TokenKind,
         close: TokenKind,
-    ) -> Result<Tree, ParseError>
+    ) -> Tree
         requires { Nests self.now.depth (F.pre self.now.parse) }
     {
-        let mut items = Items::new(self.alloc);
+        let mut items = Trees::new(self.alloc);
         for _turn in 0..tokens.at.left() {
             if tokens.at.is(close) {
                 break;
             }
-            items.push(self.again(tokens, rule)?)?;
+            items.push(self.again(tokens, rule));
             if !tokens.at.eat(between) {
                 break;
             }
         }
-        tokens.at.expect(close)?;
-        Ok(Tree::list(items))
+        tokens.expect(close);
+        tokens.list(items)
     }
 }
 
 impl<'a> Tokens<'a> {
     /// Counts one more node upon what the rule at hand has made, as in `a.b.c`.
-    pub fn link(&mut self) -> Result<(), ParseError> {
+    pub fn link(&mut self) {
         let high = self.at.high().saturating_add(1);
         let _ = self.at.set_high(high);
         if high > MAX_HEIGHT {
-            return Err(ParseError::TooDeep(self.at.start()));
+            self.refuse_depth();
         }
-        Ok(())
     }
 }

@@ -12,12 +12,14 @@ mod literals;
 mod names;
 mod shared;
 mod tokens;
+mod trees;
 
 pub use cursor::{Cursor, Within};
-pub use error::{ParseError, parsed};
+pub use error::ParseError;
 pub use grammar::{Grammar, MAX_HEIGHT, Rule};
 pub use literals::{bool_literal, literal_key, number, quasi, regex, signed_number, string};
 pub use names::{
-    binding, entity, ident, ident_name, is_reserved, private_name, sees_ident, word_ident,
+    binding, entity, ident, ident_name, is_reserved, private_name, sees_ident, word, word_ident,
 };
-pub use tokens::{Note, Tokens};
+pub use tokens::{Note, Saved, Tokens};
+pub use trees::Trees;

@@ -1,6 +1,6 @@
 //! Literals.
 use crate::cooked::cooked;
-use crate::error::{ParseError, parsed};
+use crate::cursor::Cursor;
 use crate::names::word_ident;
 use crate::tokens::Tokens;
 use fast_check_source_lexer::{Keyword, TokenKind};
@@ -9,26 +9,40 @@ use fast_check_tree_forms_programs::{BigInt, Bool, Number, Regex, Str};
 use fast_check_tree_syntax::{Atom, SourcePos, SourceRange, Tree};
 use std::alloc::{AllocError, Global};
 
-/// `"a"`
-pub fn string(alloc: Global, tokens: &mut Tokens<'_>) -> Result<Tree, ParseError> {
-    if !tokens.at.is(TokenKind::String) {
-        return Err(tokens.at.refuse());
-    }
-    let Some(value) = cooked(alloc, tokens.at.inside(1, 1))? else {
-        return Err(tokens.at.refuse());
+// A string, if its escapes are right.
+fn string_at(alloc: Global, at: Cursor<'_>) -> Result<Option<Tree>, AllocError> {
+    let Some(value) = cooked(alloc, at.inside(1, 1))? else {
+        return Ok(None);
     };
-    let span = tokens.at.here();
-    let raw = Tree::Text(tokens.at.written(alloc)?);
-    tokens.at.advance();
-    parsed(Str { span, value, raw }.into_tree(alloc))
+    let span = at.here();
+    let raw = Tree::Text(at.written(alloc)?);
+    Ok(Some(Str { span, value, raw }.into_tree(alloc)?))
 }
 
-fn number_of(
+/// `"a"`
+pub fn string(alloc: Global, tokens: &mut Tokens<'_>) -> Tree {
+    if !tokens.at.is(TokenKind::String) {
+        return tokens.refuse();
+    }
+    match string_at(alloc, tokens.at) {
+        Ok(Some(made)) => {
+            tokens.at.advance();
+            made
+        }
+        Ok(None) => tokens.refuse(),
+        Err(why) => tokens.made(Err(why)),
+    }
+}
+
+// `1` or `1n`, which begins at a place and ends before the next token.
+fn number_from(
     alloc: Global,
     kind: TokenKind,
-    span: SourceRange,
-    raw: Atom,
+    at: Cursor<'_>,
+    start: SourcePos,
 ) -> Result<Tree, AllocError> {
+    let span = at.from(start);
+    let raw = Atom::from_str(alloc, at.text_from(start))?;
     if kind == TokenKind::BigInt {
         BigInt { span, raw }.into_tree(alloc)
     } else {
@@ -36,61 +50,62 @@ fn number_of(
     }
 }
 
-/// `1` or `1n`
-pub fn number(alloc: Global, tokens: &mut Tokens<'_>) -> Result<Tree, ParseError> {
+// The same with what stands before it, from a place on.
+fn digits(alloc: Global, tokens: &mut Tokens<'_>, start: SourcePos) -> Tree {
     let kind = tokens.at.kind();
     if kind != TokenKind::Number && kind != TokenKind::BigInt {
-        return Err(tokens.at.refuse());
+        return tokens.refuse();
     }
-    let span = tokens.at.here();
-    let raw = tokens.at.written(alloc)?;
     tokens.at.advance();
-    Ok(number_of(alloc, kind, span, raw)?)
+    tokens.made(number_from(alloc, kind, tokens.at, start))
+}
+
+/// `1` or `1n`
+pub fn number(alloc: Global, tokens: &mut Tokens<'_>) -> Tree {
+    let start = tokens.at.start();
+    digits(alloc, tokens, start)
 }
 
 /// A number with a sign or without one.
-pub fn signed_number(alloc: Global, tokens: &mut Tokens<'_>) -> Result<Tree, ParseError> {
+pub fn signed_number(alloc: Global, tokens: &mut Tokens<'_>) -> Tree {
     let start = tokens.at.start();
-    if !tokens.at.eat(TokenKind::Minus) {
-        return number(alloc, tokens);
-    }
-    let kind = tokens.at.kind();
-    if kind != TokenKind::Number && kind != TokenKind::BigInt {
-        return Err(tokens.at.refuse());
-    }
-    tokens.at.advance();
-    let raw = Atom::from_str(alloc, tokens.at.text_from(start))?;
-    Ok(number_of(alloc, kind, tokens.at.from(start), raw)?)
+    let _ = tokens.at.eat(TokenKind::Minus);
+    digits(alloc, tokens, start)
 }
 
 /// `true` or `false`, whichever comes next.
-pub fn bool_literal(alloc: Global, tokens: &mut Tokens<'_>) -> Result<Tree, ParseError> {
+pub fn bool_literal(alloc: Global, tokens: &mut Tokens<'_>) -> Tree {
     let span = tokens.at.here();
     let value = tokens.at.is_word(Keyword::True);
     tokens.at.advance();
-    parsed(Bool { span, value }.into_tree(alloc))
+    tokens.made(Bool { span, value }.into_tree(alloc))
 }
 
-/// A regular expression that a `/` begins.
-pub fn regex(alloc: Global, tokens: &mut Tokens<'_>) -> Result<Tree, ParseError> {
-    tokens.at.rescan_regex();
-    if !tokens.at.is(TokenKind::Regex) {
-        return Err(tokens.at.refuse());
-    }
-    let text = tokens.at.inside(0, 0);
+fn regex_at(alloc: Global, at: Cursor<'_>) -> Result<Tree, AllocError> {
+    let text = at.inside(0, 0);
     let end = match text.rfind("/") {
         Some(end) => end,
         None => 0,
     };
-    let exp = Atom::from_str(alloc, tokens.at.inside(1, text.len().saturating_sub(end)))?;
-    let flags = Atom::from_str(alloc, tokens.at.inside(end.saturating_add(1), 0))?;
-    let span = tokens.at.here();
+    let exp = Atom::from_str(alloc, at.inside(1, text.len().saturating_sub(end)))?;
+    let flags = Atom::from_str(alloc, at.inside(end.saturating_add(1), 0))?;
+    let span = at.here();
+    Regex { span, exp, flags }.into_tree(alloc)
+}
+
+/// A regular expression that a `/` begins.
+pub fn regex(alloc: Global, tokens: &mut Tokens<'_>) -> Tree {
+    tokens.at.rescan_regex();
+    if !tokens.at.is(TokenKind::Regex) {
+        return tokens.refuse();
+    }
+    let made = regex_at(alloc, tokens.at);
     tokens.at.advance();
-    parsed(Regex { span, exp, flags }.into_tree(alloc))
+    tokens.made(made)
 }
 
 /// A key that is a word, a string or a number, as an expression.
-pub fn literal_key(alloc: Global, tokens: &mut Tokens<'_>) -> Result<Tree, ParseError> {
+pub fn literal_key(alloc: Global, tokens: &mut Tokens<'_>) -> Tree {
     match tokens.at.kind() {
         TokenKind::Name => word_ident(alloc, tokens),
         TokenKind::String => string(alloc, tokens),
@@ -114,15 +129,12 @@ fn with_line_feeds(alloc: Global, text: &str) -> Result<Atom, AllocError> {
     Atom::from_str(alloc, out.as_str())
 }
 
-/// The next token as a text of a template, without its delimiters. It is not passed.
-pub fn quasi(alloc: Global, tokens: &Tokens<'_>) -> Result<Tree, ParseError> {
-    let tail = matches!(
-        tokens.at.kind(),
-        TokenKind::Template | TokenKind::TemplateTail
-    );
+// The next token as a text of a template, without its delimiters.
+fn quasi_at(alloc: Global, at: Cursor<'_>) -> Result<Tree, AllocError> {
+    let tail = matches!(at.kind(), TokenKind::Template | TokenKind::TemplateTail);
     let last: usize = if tail { 1 } else { 2 };
-    let text = tokens.at.inside(1, last);
-    let here = tokens.at.here();
+    let text = at.inside(1, last);
+    let here = at.here();
     let span = SourceRange {
         start: SourcePos(here.start.0.saturating_add(1)),
         end: SourcePos(here.end.0.saturating_sub(last as u32)),
@@ -137,5 +149,12 @@ pub fn quasi(alloc: Global, tokens: &Tokens<'_>) -> Result<Tree, ParseError> {
         cooked,
         raw: with_line_feeds(alloc, text)?,
     };
-    parsed(made.into_tree(alloc))
+    made.into_tree(alloc)
+}
+
+/// The next token as a text of a template, without its delimiters. It is passed.
+pub fn quasi(alloc: Global, tokens: &mut Tokens<'_>) -> Tree {
+    let made = quasi_at(alloc, tokens.at);
+    tokens.at.advance();
+    tokens.made(made)
 }

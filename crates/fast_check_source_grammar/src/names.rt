@@ -1,10 +1,9 @@
 //! Names.
-use crate::error::{ParseError, parsed};
 use crate::tokens::Tokens;
 use fast_check_source_lexer::{Keyword, TokenKind};
 use fast_check_tree_forms_programs::{BindingIdent, Ident, IdentName, PrivateName};
 use fast_check_tree_forms_types::TsQualifiedName;
-use fast_check_tree_syntax::{SourcePos, SyntaxContext, Tree};
+use fast_check_tree_syntax::{Atom, SyntaxContext, Tree};
 use std::alloc::Global;
 
 /// Words that name nothing.
@@ -56,88 +55,87 @@ pub fn sees_ident(tokens: &Tokens<'_>) -> bool {
 }
 
 /// A name that is no reserved word, as an identifier.
-pub fn ident(alloc: Global, tokens: &mut Tokens<'_>) -> Result<Tree, ParseError> {
+pub fn ident(alloc: Global, tokens: &mut Tokens<'_>) -> Tree {
     if sees_ident(tokens) {
         word_ident(alloc, tokens)
     } else {
-        Err(tokens.at.refuse())
+        tokens.refuse()
     }
 }
 
-/// Any word as an identifier.
-pub fn word_ident(alloc: Global, tokens: &mut Tokens<'_>) -> Result<Tree, ParseError> {
+/// The name that the next token is, which is passed, if it is a word.
+pub fn word(alloc: Global, tokens: &mut Tokens<'_>) -> Option<Atom> {
     if !tokens.at.is(TokenKind::Name) {
-        return Err(tokens.at.refuse());
+        let _ = tokens.refuse();
+        return None;
     }
-    let span = tokens.at.here();
     let sym = tokens.name(alloc, 0)?;
     tokens.at.advance();
+    Some(sym)
+}
+
+/// Any word as an identifier.
+pub fn word_ident(alloc: Global, tokens: &mut Tokens<'_>) -> Tree {
+    let span = tokens.at.here();
+    let Some(sym) = word(alloc, tokens) else {
+        return Tree::Absent;
+    };
     let made = Ident {
         span,
         ctxt: SyntaxContext(0),
         sym,
         optional: false,
     };
-    parsed(made.into_tree(alloc))
+    tokens.made(made.into_tree(alloc))
 }
 
 /// Any word as a name that is not resolved.
-pub fn ident_name(alloc: Global, tokens: &mut Tokens<'_>) -> Result<Tree, ParseError> {
-    if !tokens.at.is(TokenKind::Name) {
-        return Err(tokens.at.refuse());
-    }
+pub fn ident_name(alloc: Global, tokens: &mut Tokens<'_>) -> Tree {
     let span = tokens.at.here();
-    let sym = tokens.name(alloc, 0)?;
-    tokens.at.advance();
-    parsed(IdentName { span, sym }.into_tree(alloc))
+    let Some(sym) = word(alloc, tokens) else {
+        return Tree::Absent;
+    };
+    tokens.made(IdentName { span, sym }.into_tree(alloc))
 }
 
 /// `#a`
-pub fn private_name(alloc: Global, tokens: &mut Tokens<'_>) -> Result<Tree, ParseError> {
+pub fn private_name(alloc: Global, tokens: &mut Tokens<'_>) -> Tree {
     if !tokens.at.is(TokenKind::PrivateName) {
-        return Err(tokens.at.refuse());
+        return tokens.refuse();
     }
     let span = tokens.at.here();
-    let name = tokens.name(alloc, 1)?;
+    let Some(name) = tokens.name(alloc, 1) else {
+        return Tree::Absent;
+    };
     tokens.at.advance();
-    parsed(PrivateName { span, name }.into_tree(alloc))
+    tokens.made(PrivateName { span, name }.into_tree(alloc))
 }
 
 /// A name as a pattern.
-pub fn binding(alloc: Global, tokens: &mut Tokens<'_>) -> Result<Tree, ParseError> {
+pub fn binding(alloc: Global, tokens: &mut Tokens<'_>) -> Tree {
     let made = BindingIdent {
-        id: ident(alloc, tokens)?,
+        id: ident(alloc, tokens),
         type_ann: Tree::Absent,
     };
-    parsed(made.into_tree(alloc))
+    tokens.made(made.into_tree(alloc))
 }
 
 /// `a.b.c`
-pub fn entity(alloc: Global, tokens: &mut Tokens<'_>) -> Result<Tree, ParseError> {
+pub fn entity(alloc: Global, tokens: &mut Tokens<'_>) -> Tree {
     let start = tokens.at.start();
-    let first = word_ident(alloc, tokens)?;
-    qualified(alloc, tokens, start, first)
-}
-
-fn qualified(
-    alloc: Global,
-    tokens: &mut Tokens<'_>,
-    start: SourcePos,
-    first: Tree,
-) -> Result<Tree, ParseError> {
-    let mut left = first;
+    let mut left = word_ident(alloc, tokens);
     for _turn in 0..tokens.at.left() {
         if !tokens.at.eat(TokenKind::Dot) {
             break;
         }
-        tokens.link()?;
-        let right = ident_name(alloc, tokens)?;
+        tokens.link();
+        let right = ident_name(alloc, tokens);
         let made = TsQualifiedName {
             span: tokens.at.from(start),
             left,
             right,
         };
-        left = made.into_tree(alloc)?;
+        left = tokens.made(made.into_tree(alloc));
     }
-    Ok(left)
+    left
 }

@@ -1,6 +1,6 @@
 //! Exports of names that are declared elsewhere.
 use crate::imports::{attributes, export_name, is_type_only};
-use fast_check_source_grammar::{ParseError, Tokens, parsed, string};
+use fast_check_source_grammar::{Tokens, Trees, string};
 use fast_check_source_lexer::{Keyword, TokenKind};
 use fast_check_tree_forms_programs::{
     ExportAll, ExportNamedSpecifier, ExportNamespaceSpecifier, NamedExport,
@@ -9,15 +9,15 @@ use fast_check_tree_syntax::{Items, SourcePos, Tree};
 use std::alloc::Global;
 
 // `a`, `a as b` or `type a` in the braces of an export.
-fn named(alloc: Global, tokens: &mut Tokens<'_>) -> Result<Tree, ParseError> {
+fn named(alloc: Global, tokens: &mut Tokens<'_>) -> Tree {
     let start = tokens.at.start();
     let is_type_only = is_type_only(tokens.at);
     if is_type_only {
         tokens.at.advance();
     }
-    let orig = export_name(alloc, tokens)?;
+    let orig = export_name(alloc, tokens);
     let exported = if tokens.at.eat_word(Keyword::As) {
-        export_name(alloc, tokens)?
+        export_name(alloc, tokens)
     } else {
         Tree::Absent
     };
@@ -27,15 +27,15 @@ fn named(alloc: Global, tokens: &mut Tokens<'_>) -> Result<Tree, ParseError> {
         exported,
         is_type_only,
     };
-    parsed(made.into_tree(alloc))
+    tokens.made(made.into_tree(alloc))
 }
 
 // `from "a"`, or nothing.
-fn source(alloc: Global, tokens: &mut Tokens<'_>) -> Result<Tree, ParseError> {
+fn source(alloc: Global, tokens: &mut Tokens<'_>) -> Tree {
     if tokens.at.eat_word(Keyword::From) {
         string(alloc, tokens)
     } else {
-        Ok(Tree::Absent)
+        Tree::Absent
     }
 }
 
@@ -45,23 +45,23 @@ fn named_export(
     tokens: &mut Tokens<'_>,
     start: SourcePos,
     type_only: bool,
-    specifiers: Items<Tree>,
-) -> Result<Tree, ParseError> {
-    let src = source(alloc, tokens)?;
+    specifiers: Trees,
+) -> Tree {
+    let src = source(alloc, tokens);
     let with = if matches!(&src, Tree::Absent) {
         Tree::Absent
     } else {
-        attributes(alloc, tokens)?
+        attributes(alloc, tokens)
     };
-    tokens.at.end_statement()?;
+    tokens.end_statement();
     let made = NamedExport {
         span: tokens.at.from(start),
-        specifiers: Tree::list(specifiers),
+        specifiers: tokens.list(specifiers),
         src,
         type_only,
         with,
     };
-    parsed(made.into_tree(alloc))
+    tokens.made(made.into_tree(alloc))
 }
 
 /// `{ a, b as c }` behind `export`.
@@ -70,19 +70,19 @@ pub fn export_names(
     tokens: &mut Tokens<'_>,
     start: SourcePos,
     type_only: bool,
-) -> Result<Tree, ParseError> {
+) -> Tree {
     tokens.at.advance();
-    let mut specifiers = Items::new(alloc);
+    let mut specifiers = Trees::new(alloc);
     for _turn in 0..tokens.at.left() {
         if tokens.at.is(TokenKind::RBrace) {
             break;
         }
-        specifiers.push(named(alloc, tokens)?)?;
+        specifiers.push(named(alloc, tokens));
         if !tokens.at.eat(TokenKind::Comma) {
             break;
         }
     }
-    tokens.at.expect(TokenKind::RBrace)?;
+    tokens.expect(TokenKind::RBrace);
     named_export(alloc, tokens, start, type_only, specifiers)
 }
 
@@ -92,28 +92,28 @@ pub fn export_star(
     tokens: &mut Tokens<'_>,
     start: SourcePos,
     type_only: bool,
-) -> Result<Tree, ParseError> {
+) -> Tree {
     let at = tokens.at.start();
     tokens.at.advance();
     if tokens.at.eat_word(Keyword::As) {
-        let name = export_name(alloc, tokens)?;
+        let name = export_name(alloc, tokens);
         let span = tokens.at.from(at);
-        let mut specifiers = Items::new(alloc);
-        specifiers.push(ExportNamespaceSpecifier { span, name }.into_tree(alloc)?)?;
+        let mut specifiers = Trees::new(alloc);
+        specifiers.push(tokens.made(ExportNamespaceSpecifier { span, name }.into_tree(alloc)));
         if !tokens.at.is_word(Keyword::From) {
-            return Err(tokens.at.refuse());
+            return tokens.refuse();
         }
         return named_export(alloc, tokens, start, type_only, specifiers);
     }
-    tokens.at.expect_word(Keyword::From)?;
-    let src = string(alloc, tokens)?;
-    let with = attributes(alloc, tokens)?;
-    tokens.at.end_statement()?;
+    tokens.expect_word(Keyword::From);
+    let src = string(alloc, tokens);
+    let with = attributes(alloc, tokens);
+    tokens.end_statement();
     let made = ExportAll {
         span: tokens.at.from(start),
         src,
         type_only,
         with,
     };
-    parsed(made.into_tree(alloc))
+    tokens.made(made.into_tree(alloc))
 }

@@ -1,6 +1,6 @@
 //! Imports.
 use fast_check_source_grammar::{
-    Cursor, ParseError, Tokens, entity, ident, ident_name, parsed, string, word_ident,
+    Cursor, Tokens, Trees, entity, ident, ident_name, string, word_ident,
 };
 use fast_check_source_lexer::{Keyword, TokenKind};
 use fast_check_tree_forms_expressions::{KeyValueProp, ObjectLit};
@@ -12,7 +12,7 @@ use fast_check_tree_syntax::{Atom, Items, SourcePos, Tree};
 use std::alloc::Global;
 
 /// A name by which a module exports: a word or a string.
-pub fn export_name(alloc: Global, tokens: &mut Tokens<'_>) -> Result<Tree, ParseError> {
+pub fn export_name(alloc: Global, tokens: &mut Tokens<'_>) -> Tree {
     if tokens.at.is(TokenKind::String) {
         string(alloc, tokens)
     } else {
@@ -53,7 +53,7 @@ fn is_before_clause(at: Cursor<'_>) -> bool {
     }
 }
 
-fn attribute_key(alloc: Global, tokens: &mut Tokens<'_>) -> Result<Tree, ParseError> {
+fn attribute_key(alloc: Global, tokens: &mut Tokens<'_>) -> Tree {
     if tokens.at.is(TokenKind::String) {
         string(alloc, tokens)
     } else {
@@ -62,35 +62,35 @@ fn attribute_key(alloc: Global, tokens: &mut Tokens<'_>) -> Result<Tree, ParseEr
 }
 
 /// `with { a: "b" }`, or nothing.
-pub fn attributes(alloc: Global, tokens: &mut Tokens<'_>) -> Result<Tree, ParseError> {
+pub fn attributes(alloc: Global, tokens: &mut Tokens<'_>) -> Tree {
     let asserts = tokens.at.is_word(Keyword::Assert) && !tokens.at.newline();
     if !asserts && !tokens.at.is_word(Keyword::With) {
-        return Ok(Tree::Absent);
+        return Tree::Absent;
     }
     tokens.at.advance();
     let start = tokens.at.start();
-    tokens.at.expect(TokenKind::LBrace)?;
-    let mut props = Items::new(alloc);
+    tokens.expect(TokenKind::LBrace);
+    let mut props = Trees::new(alloc);
     for _turn in 0..tokens.at.left() {
         if tokens.at.is(TokenKind::RBrace) {
             break;
         }
-        let key = attribute_key(alloc, tokens)?;
-        tokens.at.expect(TokenKind::Colon)?;
-        let value = string(alloc, tokens)?;
-        props.push(KeyValueProp { key, value }.into_tree(alloc)?)?;
+        let key = attribute_key(alloc, tokens);
+        tokens.expect(TokenKind::Colon);
+        let value = string(alloc, tokens);
+        props.push(tokens.made(KeyValueProp { key, value }.into_tree(alloc)));
         if !tokens.at.eat(TokenKind::Comma) {
             break;
         }
     }
-    tokens.at.expect(TokenKind::RBrace)?;
+    tokens.expect(TokenKind::RBrace);
     let span = tokens.at.from(start);
-    let props = Tree::list(props);
-    parsed(ObjectLit { span, props }.into_tree(alloc))
+    let props = tokens.list(props);
+    tokens.made(ObjectLit { span, props }.into_tree(alloc))
 }
 
 // `a`, `a as b` or `type a` in the braces of an import.
-fn named(alloc: Global, tokens: &mut Tokens<'_>) -> Result<Tree, ParseError> {
+fn named(alloc: Global, tokens: &mut Tokens<'_>) -> Tree {
     let start = tokens.at.start();
     let is_type_only = is_type_only(tokens.at);
     if is_type_only {
@@ -98,82 +98,78 @@ fn named(alloc: Global, tokens: &mut Tokens<'_>) -> Result<Tree, ParseError> {
     }
     let is_renamed = tokens.at.second().is_word(Keyword::As);
     let imported = if is_renamed {
-        export_name(alloc, tokens)?
+        export_name(alloc, tokens)
     } else {
         Tree::Absent
     };
     if is_renamed {
         tokens.at.advance();
     }
-    let local = ident(alloc, tokens)?;
+    let local = ident(alloc, tokens);
     let made = ImportNamedSpecifier {
         span: tokens.at.from(start),
         local,
         imported,
         is_type_only,
     };
-    parsed(made.into_tree(alloc))
+    tokens.made(made.into_tree(alloc))
 }
 
 // `* as a`
-fn star(alloc: Global, tokens: &mut Tokens<'_>) -> Result<Tree, ParseError> {
+fn star(alloc: Global, tokens: &mut Tokens<'_>) -> Tree {
     let start = tokens.at.start();
     tokens.at.advance();
-    tokens.at.expect_word(Keyword::As)?;
-    let local = ident(alloc, tokens)?;
+    tokens.expect_word(Keyword::As);
+    let local = ident(alloc, tokens);
     let span = tokens.at.from(start);
-    parsed(ImportStarAsSpecifier { span, local }.into_tree(alloc))
+    tokens.made(ImportStarAsSpecifier { span, local }.into_tree(alloc))
 }
 
-fn named_list(
-    alloc: Global,
-    tokens: &mut Tokens<'_>,
-    specifiers: &mut Items<Tree>,
-) -> Result<(), ParseError> {
+fn named_list(alloc: Global, tokens: &mut Tokens<'_>, specifiers: &mut Trees) {
     tokens.at.advance();
     for _turn in 0..tokens.at.left() {
         if tokens.at.is(TokenKind::RBrace) {
             break;
         }
-        specifiers.push(named(alloc, tokens)?)?;
+        specifiers.push(named(alloc, tokens));
         if !tokens.at.eat(TokenKind::Comma) {
             break;
         }
     }
-    tokens.at.expect(TokenKind::RBrace)
+    tokens.expect(TokenKind::RBrace)
 }
 
 // What stands between `import` and `from`.
-fn clause(alloc: Global, tokens: &mut Tokens<'_>) -> Result<Tree, ParseError> {
-    let mut specifiers = Items::new(alloc);
+fn clause(alloc: Global, tokens: &mut Tokens<'_>) -> Tree {
+    let mut specifiers = Trees::new(alloc);
     if tokens.at.is(TokenKind::Name) {
         let span = tokens.at.here();
-        let local = ident(alloc, tokens)?;
-        specifiers.push(ImportDefaultSpecifier { span, local }.into_tree(alloc)?)?;
+        let local = ident(alloc, tokens);
+        specifiers.push(tokens.made(ImportDefaultSpecifier { span, local }.into_tree(alloc)));
         if !tokens.at.eat(TokenKind::Comma) {
-            return Ok(Tree::list(specifiers));
+            return tokens.list(specifiers);
         }
     }
     match tokens.at.kind() {
-        TokenKind::Star => specifiers.push(star(alloc, tokens)?)?,
-        TokenKind::LBrace => named_list(alloc, tokens, &mut specifiers)?,
-        _ => return Err(tokens.at.refuse()),
+        TokenKind::Star => specifiers.push(star(alloc, tokens)),
+        TokenKind::LBrace => named_list(alloc, tokens, &mut specifiers),
+        _ => return tokens.refuse(),
     }
-    Ok(Tree::list(specifiers))
+    tokens.list(specifiers)
 }
 
 // `require("a")` or `a.b` behind `import c =`.
-fn module_ref(alloc: Global, tokens: &mut Tokens<'_>) -> Result<Tree, ParseError> {
+fn module_ref(alloc: Global, tokens: &mut Tokens<'_>) -> Tree {
     let start = tokens.at.start();
     if !tokens.at.is_word(Keyword::Require) || !tokens.at.second().is(TokenKind::LParen) {
         return entity(alloc, tokens);
     }
     tokens.at.advance();
     tokens.at.advance();
-    let expr = string(alloc, tokens)?;
-    tokens.at.expect(TokenKind::RParen)?;
+    let expr = string(alloc, tokens);
+    tokens.expect(TokenKind::RParen);
     let span = tokens.at.from(start);
-    parsed(TsExternalModuleRef { span, expr }.into_tree(alloc))
+    tokens.made(TsExternalModuleRef { span, expr }.into_tree(alloc))
 }
 
 /// `a = b.c` behind `import` or `import type`.
@@ -183,11 +179,11 @@ pub fn import_equals(
     start: SourcePos,
     is_export: bool,
     is_type_only: bool,
-) -> Result<Tree, ParseError> {
-    let id = ident(alloc, tokens)?;
-    tokens.at.expect(TokenKind::Assign)?;
-    let module_ref = module_ref(alloc, tokens)?;
-    tokens.at.end_statement()?;
+) -> Tree {
+    let id = ident(alloc, tokens);
+    tokens.expect(TokenKind::Assign);
+    let module_ref = module_ref(alloc, tokens);
+    tokens.end_statement();
     let made = TsImportEqualsDecl {
         span: tokens.at.from(start),
         is_export,
@@ -195,7 +191,7 @@ pub fn import_equals(
         id,
         module_ref,
     };
-    parsed(made.into_tree(alloc))
+    tokens.made(made.into_tree(alloc))
 }
 
 /// Passes `type` behind `import`, if it stands before what is imported.
@@ -208,7 +204,7 @@ pub fn eat_type(tokens: &mut Tokens<'_>) -> bool {
 }
 
 /// An import.
-pub fn import(alloc: Global, tokens: &mut Tokens<'_>) -> Result<Tree, ParseError> {
+pub fn import(alloc: Global, tokens: &mut Tokens<'_>) -> Tree {
     let start = tokens.at.start();
     tokens.at.advance();
     let type_only = eat_type(tokens);
@@ -224,20 +220,24 @@ pub fn import(alloc: Global, tokens: &mut Tokens<'_>) -> Result<Tree, ParseError
     let specifiers = if tokens.at.is(TokenKind::String) {
         Tree::list(Items::new(alloc))
     } else {
-        let found = clause(alloc, tokens)?;
-        tokens.at.expect_word(Keyword::From)?;
+        let found = clause(alloc, tokens);
+        tokens.expect_word(Keyword::From);
         found
     };
-    let src = string(alloc, tokens)?;
-    let with = attributes(alloc, tokens)?;
-    tokens.at.end_statement()?;
+    let src = string(alloc, tokens);
+    let with = attributes(alloc, tokens);
+    tokens.end_statement();
+    let phase = if is_deferred { "defer" } else { "evaluation" };
+    let Some(phase) = tokens.text(Atom::from_str(alloc, phase)) else {
+        return Tree::Absent;
+    };
     let made = ImportDecl {
         span: tokens.at.from(start),
         specifiers,
         src,
         type_only,
         with,
-        phase: Atom::from_str(alloc, if is_deferred { "defer" } else { "evaluation" })?,
+        phase,
     };
-    parsed(made.into_tree(alloc))
+    tokens.made(made.into_tree(alloc))
 }

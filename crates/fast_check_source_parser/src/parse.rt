@@ -4,27 +4,23 @@ ghost use Rattle.fast_check_tree_syntax.specs.Height.{height};
 ghost use Rattle.fast_check_source_walks.specs.Ranges.{is_nested as lies};
 
 use fast_check_source_expressions::Expressions;
-use fast_check_source_grammar::{Grammar, MAX_HEIGHT, ParseError, Rule, Tokens};
+use fast_check_source_grammar::{Grammar, MAX_HEIGHT, ParseError, Rule, Tokens, Trees};
 use fast_check_source_lexer::TokenKind;
 use fast_check_source_statements::Statements;
 use fast_check_source_types::Types;
 use fast_check_source_values::Values;
 use fast_check_source_walks::{is_at_most, is_nested};
 use fast_check_tree_forms_programs::{Module, Script};
-use fast_check_tree_syntax::{Atom, Items, Kind, SourcePos, SourceRange, Tree};
+use fast_check_tree_syntax::{Atom, Kind, SourcePos, SourceRange, Tree};
 use std::alloc::{AllocError, Global};
 
 /// How deep rules may nest, which bounds the stack.
 const MAX_DEPTH: usize = 500;
 
-fn parse(
-    alloc: Global,
-    tokens: &mut Tokens<'_>,
-    depth: usize,
-    rule: Rule,
-) -> Result<Tree, ParseError> {
+fn parse(alloc: Global, tokens: &mut Tokens<'_>, depth: usize, rule: Rule) -> Tree {
     if depth == 0 {
-        return Err(ParseError::TooDeep(tokens.at.start()));
+        tokens.refuse_depth();
+        return Tree::Absent;
     }
     let grammar = Grammar {
         alloc,
@@ -146,15 +142,15 @@ pub fn parse_program(alloc: Global, text: &str, jsx: bool) -> Result<Tree, Parse
     } else {
         tokens.at.start()
     };
-    let mut items = Items::new(alloc);
+    let mut items = Trees::new(alloc);
     let mut is_module = false;
     for _turn in 0..tokens.at.left() {
         if tokens.at.is(TokenKind::End) {
             break;
         }
-        let item = parse(alloc, &mut tokens, MAX_DEPTH, Rule::Item)?;
+        let item = parse(alloc, &mut tokens, MAX_DEPTH, Rule::Item);
         is_module = is_module || is_module_item(&item);
-        items.push(item)?;
+        items.push(item);
     }
     let span = if is_empty {
         SourceRange { start, end: start }
@@ -162,13 +158,11 @@ pub fn parse_program(alloc: Global, text: &str, jsx: bool) -> Result<Tree, Parse
         tokens.at.from(start)
     };
     let is_module = is_module || tokens.is_module();
-    let tree = file(
-        alloc,
-        span,
-        Tree::list(items),
-        shebang(alloc, text)?,
-        is_module,
-    )?;
+    let body = tokens.list(items);
+    if let Some(fault) = tokens.fault() {
+        return Err(fault);
+    }
+    let tree = file(alloc, span, body, shebang(alloc, text)?, is_module)?;
     if !is_at_most(&tree, MAX_HEIGHT) {
         return Err(ParseError::TooDeep(start));
     }

@@ -2,7 +2,7 @@
 ghost use Rattle.fast_check_source_grammar.specs.Nests.{Nests};
 
 use crate::statements::Statements;
-use fast_check_source_grammar::{Cursor, ParseError, Rule, Tokens, ident, parsed, sees_ident};
+use fast_check_source_grammar::{Cursor, ParseError, Rule, Tokens, ident, sees_ident};
 use fast_check_source_lexer::{Keyword, TokenKind};
 use fast_check_tree_forms_statements::{
     BreakStmt, CatchClause, ContinueStmt, DebuggerStmt, ExprStmt, IfStmt, LabeledStmt, ReturnStmt,
@@ -24,9 +24,9 @@ struct Choice {
     cons: Tree,
 }
 
-impl<F: Fn(Global, &mut Tokens<'_>, usize, Rule) -> Result<Tree, ParseError>> Statements<F> {
+impl<F: Fn(Global, &mut Tokens<'_>, usize, Rule) -> Tree> Statements<F> {
     /// A statement that is no declaration.
-    pub fn flow(&self, tokens: &mut Tokens<'_>) -> Result<Tree, ParseError>
+    pub fn flow(&self, tokens: &mut Tokens<'_>) -> Tree
         requires { Nests self.now.expressions.values.types.grammar.depth (F.pre self.now.expressions.values.types.grammar.parse) }
     {
         match tokens.at.kind() {
@@ -37,7 +37,7 @@ impl<F: Fn(Global, &mut Tokens<'_>, usize, Rule) -> Result<Tree, ParseError>> St
         }
     }
 
-    fn worded(&self, tokens: &mut Tokens<'_>) -> Result<Tree, ParseError>
+    fn worded(&self, tokens: &mut Tokens<'_>) -> Tree
         requires { Nests self.now.expressions.values.types.grammar.depth (F.pre self.now.expressions.values.types.grammar.parse) }
     {
         match tokens.at.word() {
@@ -58,123 +58,126 @@ impl<F: Fn(Global, &mut Tokens<'_>, usize, Rule) -> Result<Tree, ParseError>> St
     }
 
     /// `(value)` behind a word.
-    pub fn in_parens(&self, tokens: &mut Tokens<'_>) -> Result<Tree, ParseError>
+    pub fn in_parens(&self, tokens: &mut Tokens<'_>) -> Tree
         requires { Nests self.now.expressions.values.types.grammar.depth (F.pre self.now.expressions.values.types.grammar.parse) }
     {
-        tokens.at.expect(TokenKind::LParen)?;
-        let found = self.again(tokens, Rule::Expression)?;
-        tokens.at.expect(TokenKind::RParen)?;
-        Ok(found)
+        tokens.expect(TokenKind::LParen);
+        let found = self.again(tokens, Rule::Expression);
+        tokens.expect(TokenKind::RParen);
+        found
     }
 
     // A value, or a statement with a label.
-    fn simple(&self, tokens: &mut Tokens<'_>) -> Result<Tree, ParseError>
+    fn simple(&self, tokens: &mut Tokens<'_>) -> Tree
         requires { Nests self.now.expressions.values.types.grammar.depth (F.pre self.now.expressions.values.types.grammar.parse) }
     {
         let alloc = self.alloc();
         let start = tokens.at.start();
         if sees_ident(tokens) && tokens.at.second().is(TokenKind::Colon) {
-            let label = ident(alloc, tokens)?;
+            let label = ident(alloc, tokens);
             tokens.at.advance();
-            let body = self.again(tokens, Rule::Statement)?;
+            let body = self.again(tokens, Rule::Statement);
             let span = tokens.at.from(start);
-            return parsed(LabeledStmt { span, label, body }.into_tree(alloc));
+            return tokens.made(LabeledStmt { span, label, body }.into_tree(alloc));
         }
-        let expr = self.again(tokens, Rule::Expression)?;
-        tokens.at.end_statement()?;
+        let expr = self.again(tokens, Rule::Expression);
+        tokens.end_statement();
         let span = tokens.at.from(start);
-        parsed(ExprStmt { span, expr }.into_tree(alloc))
+        tokens.made(ExprStmt { span, expr }.into_tree(alloc))
     }
 
-    fn returned(&self, tokens: &mut Tokens<'_>) -> Result<Tree, ParseError>
+    fn returned(&self, tokens: &mut Tokens<'_>) -> Tree
         requires { Nests self.now.expressions.values.types.grammar.depth (F.pre self.now.expressions.values.types.grammar.parse) }
     {
         let start = tokens.at.start();
         tokens.at.advance();
         let has_value = !has_no_value(tokens.at);
-        let arg = self.again_if(tokens, has_value, Rule::Expression)?;
-        tokens.at.end_statement()?;
+        let arg = self.again_if(tokens, has_value, Rule::Expression);
+        tokens.end_statement();
         let span = tokens.at.from(start);
-        parsed(ReturnStmt { span, arg }.into_tree(self.alloc()))
+        tokens.made(ReturnStmt { span, arg }.into_tree(self.alloc()))
     }
 
-    fn thrown(&self, tokens: &mut Tokens<'_>) -> Result<Tree, ParseError>
+    fn thrown(&self, tokens: &mut Tokens<'_>) -> Tree
         requires { Nests self.now.expressions.values.types.grammar.depth (F.pre self.now.expressions.values.types.grammar.parse) }
     {
         let start = tokens.at.start();
         tokens.at.advance();
         if tokens.at.newline() {
-            return Err(tokens.at.refuse());
+            return tokens.refuse();
         }
-        let arg = self.again(tokens, Rule::Expression)?;
-        tokens.at.end_statement()?;
+        let arg = self.again(tokens, Rule::Expression);
+        tokens.end_statement();
         let span = tokens.at.from(start);
-        parsed(ThrowStmt { span, arg }.into_tree(self.alloc()))
+        tokens.made(ThrowStmt { span, arg }.into_tree(self.alloc()))
     }
 
     // The label behind `break` or `continue`, and what ends the statement.
-    fn label(&self, tokens: &mut Tokens<'_>) -> Result<Tree, ParseError> {
+    fn label(&self, tokens: &mut Tokens<'_>) -> Tree {
         tokens.at.advance();
         let label = if sees_ident(tokens) && !tokens.at.newline() {
-            ident(self.alloc(), tokens)?
+            ident(self.alloc(), tokens)
         } else {
             Tree::Absent
         };
-        tokens.at.end_statement()?;
-        Ok(label)
+        tokens.end_statement();
+        label
     }
 
-    fn broken(&self, tokens: &mut Tokens<'_>) -> Result<Tree, ParseError> {
+    fn broken(&self, tokens: &mut Tokens<'_>) -> Tree {
         let start = tokens.at.start();
-        let label = self.label(tokens)?;
+        let label = self.label(tokens);
         let span = tokens.at.from(start);
-        parsed(BreakStmt { span, label }.into_tree(self.alloc()))
+        tokens.made(BreakStmt { span, label }.into_tree(self.alloc()))
     }
 
-    fn continued(&self, tokens: &mut Tokens<'_>) -> Result<Tree, ParseError> {
+    fn continued(&self, tokens: &mut Tokens<'_>) -> Tree {
         let start = tokens.at.start();
-        let label = self.label(tokens)?;
+        let label = self.label(tokens);
         let span = tokens.at.from(start);
-        parsed(ContinueStmt { span, label }.into_tree(self.alloc()))
+        tokens.made(ContinueStmt { span, label }.into_tree(self.alloc()))
     }
 
-    fn debugger(&self, tokens: &mut Tokens<'_>) -> Result<Tree, ParseError> {
+    fn debugger(&self, tokens: &mut Tokens<'_>) -> Tree {
         let start = tokens.at.start();
         tokens.at.advance();
-        tokens.at.end_statement()?;
+        tokens.end_statement();
         let span = tokens.at.from(start);
-        parsed(DebuggerStmt { span }.into_tree(self.alloc()))
+        tokens.made(DebuggerStmt { span }.into_tree(self.alloc()))
     }
 
     // `if (a) b`, from its word to what stands before `else`.
-    fn branch(&self, tokens: &mut Tokens<'_>) -> Result<Choice, ParseError>
+    fn branch(&self, tokens: &mut Tokens<'_>) -> Choice
         requires { Nests self.now.expressions.values.types.grammar.depth (F.pre self.now.expressions.values.types.grammar.parse) }
     {
         let start = tokens.at.start();
         tokens.at.advance();
-        let test = self.in_parens(tokens)?;
-        let cons = self.again(tokens, Rule::Statement)?;
-        Ok(Choice { start, test, cons })
+        let test = self.in_parens(tokens);
+        let cons = self.again(tokens, Rule::Statement);
+        Choice { start, test, cons }
     }
 
     // `if (a) b else if (c) d else e`, however long.
-    fn choice(&self, tokens: &mut Tokens<'_>) -> Result<Tree, ParseError>
+    fn choice(&self, tokens: &mut Tokens<'_>) -> Tree
         requires { Nests self.now.expressions.values.types.grammar.depth (F.pre self.now.expressions.values.types.grammar.parse) }
     {
         let alloc = self.alloc();
         let mut choices: Vec<Choice> = Vec::new(alloc);
-        choices.push(self.branch(tokens)?)?;
+        let mut lacks = choices.push(self.branch(tokens)).is_err();
         let mut alt = Tree::Absent;
         for _turn in 0..tokens.at.left() {
             if !tokens.at.eat_word(Keyword::Else) {
                 break;
             }
             if !tokens.at.is_word(Keyword::If) {
-                alt = self.again(tokens, Rule::Statement)?;
+                alt = self.again(tokens, Rule::Statement);
                 break;
             }
-            tokens.link()?;
-            choices.push(self.branch(tokens)?)?;
+            tokens.link();
+            lacks = choices.push(self.branch(tokens)).is_err() || lacks;
+        }
+        if lacks {
+            tokens.stop(ParseError::Memory);
         }
         for _turn in 0..choices.len() {
             if let Some(Choice { start, test, cons }) = choices.pop() {
@@ -184,92 +187,92 @@ impl<F: Fn(Global, &mut Tokens<'_>, usize, Rule) -> Result<Tree, ParseError>> St
                     cons,
                     alt,
                 };
-                alt = made.into_tree(alloc)?;
+                alt = tokens.made(made.into_tree(alloc));
             }
         }
-        Ok(alt)
+        alt
     }
 
-    fn with_object(&self, tokens: &mut Tokens<'_>) -> Result<Tree, ParseError>
+    fn with_object(&self, tokens: &mut Tokens<'_>) -> Tree
         requires { Nests self.now.expressions.values.types.grammar.depth (F.pre self.now.expressions.values.types.grammar.parse) }
     {
         let start = tokens.at.start();
         tokens.at.advance();
-        let obj = self.in_parens(tokens)?;
-        let body = self.again(tokens, Rule::Statement)?;
+        let obj = self.in_parens(tokens);
+        let body = self.again(tokens, Rule::Statement);
         let span = tokens.at.from(start);
-        parsed(WithStmt { span, obj, body }.into_tree(self.alloc()))
+        tokens.made(WithStmt { span, obj, body }.into_tree(self.alloc()))
     }
 
-    fn switch(&self, tokens: &mut Tokens<'_>) -> Result<Tree, ParseError>
+    fn switch(&self, tokens: &mut Tokens<'_>) -> Tree
         requires { Nests self.now.expressions.values.types.grammar.depth (F.pre self.now.expressions.values.types.grammar.parse) }
     {
         let start = tokens.at.start();
         tokens.at.advance();
-        let discriminant = self.in_parens(tokens)?;
-        tokens.at.expect(TokenKind::LBrace)?;
+        let discriminant = self.in_parens(tokens);
+        tokens.expect(TokenKind::LBrace);
         let mut cases = self.none();
         for _turn in 0..tokens.at.left() {
-            if tokens.at.is(TokenKind::RBrace) {
+            if tokens.at.closes(TokenKind::RBrace) {
                 break;
             }
-            cases.push(self.case(tokens)?)?;
+            cases.push(self.case(tokens));
         }
-        tokens.at.expect(TokenKind::RBrace)?;
+        tokens.expect(TokenKind::RBrace);
         let made = SwitchStmt {
             span: tokens.at.from(start),
             discriminant,
-            cases: Tree::list(cases),
+            cases: tokens.list(cases),
         };
-        parsed(made.into_tree(self.alloc()))
+        tokens.made(made.into_tree(self.alloc()))
     }
 
-    fn case(&self, tokens: &mut Tokens<'_>) -> Result<Tree, ParseError>
+    fn case(&self, tokens: &mut Tokens<'_>) -> Tree
         requires { Nests self.now.expressions.values.types.grammar.depth (F.pre self.now.expressions.values.types.grammar.parse) }
     {
         let start = tokens.at.start();
         let is_default = tokens.at.eat_word(Keyword::Default);
         if !is_default {
-            tokens.at.expect_word(Keyword::Case)?;
+            tokens.expect_word(Keyword::Case);
         }
-        let test = self.again_if(tokens, !is_default, Rule::Expression)?;
-        tokens.at.expect(TokenKind::Colon)?;
+        let test = self.again_if(tokens, !is_default, Rule::Expression);
+        tokens.expect(TokenKind::Colon);
         let mut cons = self.none();
         for _turn in 0..tokens.at.left() {
-            if tokens.at.is(TokenKind::RBrace)
+            if tokens.at.closes(TokenKind::RBrace)
                 || tokens.at.is_word(Keyword::Case)
                 || tokens.at.is_word(Keyword::Default)
             {
                 break;
             }
-            cons.push(self.again(tokens, Rule::Statement)?)?;
+            cons.push(self.again(tokens, Rule::Statement));
         }
         let made = SwitchCase {
             span: tokens.at.from(start),
             test,
-            cons: Tree::list(cons),
+            cons: tokens.list(cons),
         };
-        parsed(made.into_tree(self.alloc()))
+        tokens.made(made.into_tree(self.alloc()))
     }
 
-    fn attempt(&self, tokens: &mut Tokens<'_>) -> Result<Tree, ParseError>
+    fn attempt(&self, tokens: &mut Tokens<'_>) -> Tree
         requires { Nests self.now.expressions.values.types.grammar.depth (F.pre self.now.expressions.values.types.grammar.parse) }
     {
         let start = tokens.at.start();
         tokens.at.advance();
-        let block = self.block(tokens)?;
+        let block = self.block(tokens);
         let is_caught = tokens.at.is_word(Keyword::Catch);
         let handler = if is_caught {
-            self.handler(tokens)?
+            self.handler(tokens)
         } else {
             Tree::Absent
         };
         let is_final = tokens.at.eat_word(Keyword::Finally);
         if !is_caught && !is_final {
-            return Err(tokens.at.refuse());
+            return tokens.refuse();
         }
         let finalizer = if is_final {
-            self.block(tokens)?
+            self.block(tokens)
         } else {
             Tree::Absent
         };
@@ -279,24 +282,24 @@ impl<F: Fn(Global, &mut Tokens<'_>, usize, Rule) -> Result<Tree, ParseError>> St
             handler,
             finalizer,
         };
-        parsed(made.into_tree(self.alloc()))
+        tokens.made(made.into_tree(self.alloc()))
     }
 
     // `catch (a) {}`
-    fn handler(&self, tokens: &mut Tokens<'_>) -> Result<Tree, ParseError>
+    fn handler(&self, tokens: &mut Tokens<'_>) -> Tree
         requires { Nests self.now.expressions.values.types.grammar.depth (F.pre self.now.expressions.values.types.grammar.parse) }
     {
         let start = tokens.at.start();
         tokens.at.advance();
         let param = if tokens.at.eat(TokenKind::LParen) {
-            let found = self.expressions.values.types.declared(tokens)?;
-            tokens.at.expect(TokenKind::RParen)?;
+            let found = self.expressions.values.types.declared(tokens);
+            tokens.expect(TokenKind::RParen);
             found
         } else {
             Tree::Absent
         };
-        let body = self.block(tokens)?;
+        let body = self.block(tokens);
         let span = tokens.at.from(start);
-        parsed(CatchClause { span, param, body }.into_tree(self.alloc()))
+        tokens.made(CatchClause { span, param, body }.into_tree(self.alloc()))
     }
 }

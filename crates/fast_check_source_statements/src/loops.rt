@@ -2,7 +2,7 @@
 ghost use Rattle.fast_check_source_grammar.specs.Nests.{Nests};
 
 use crate::statements::{Opening, Statements, is_await_using, is_using};
-use fast_check_source_grammar::{Cursor, Note, ParseError, Rule, Tokens, Within, parsed};
+use fast_check_source_grammar::{Cursor, Note, Rule, Tokens, Within};
 use fast_check_source_lexer::{Keyword, TokenKind};
 use fast_check_tree_forms_statements::{DoWhileStmt, ForInStmt, ForOfStmt, ForStmt, WhileStmt};
 use fast_check_tree_syntax::{SourcePos, Tree};
@@ -24,33 +24,33 @@ struct Head {
     declared: bool,
 }
 
-impl<F: Fn(Global, &mut Tokens<'_>, usize, Rule) -> Result<Tree, ParseError>> Statements<F> {
-    pub fn while_loop(&self, tokens: &mut Tokens<'_>) -> Result<Tree, ParseError>
+impl<F: Fn(Global, &mut Tokens<'_>, usize, Rule) -> Tree> Statements<F> {
+    pub fn while_loop(&self, tokens: &mut Tokens<'_>) -> Tree
         requires { Nests self.now.expressions.values.types.grammar.depth (F.pre self.now.expressions.values.types.grammar.parse) }
     {
         let start = tokens.at.start();
         tokens.at.advance();
-        let test = self.in_parens(tokens)?;
-        let body = self.again(tokens, Rule::Statement)?;
+        let test = self.in_parens(tokens);
+        let body = self.again(tokens, Rule::Statement);
         let span = tokens.at.from(start);
-        parsed(WhileStmt { span, test, body }.into_tree(self.alloc()))
+        tokens.made(WhileStmt { span, test, body }.into_tree(self.alloc()))
     }
 
-    pub fn do_loop(&self, tokens: &mut Tokens<'_>) -> Result<Tree, ParseError>
+    pub fn do_loop(&self, tokens: &mut Tokens<'_>) -> Tree
         requires { Nests self.now.expressions.values.types.grammar.depth (F.pre self.now.expressions.values.types.grammar.parse) }
     {
         let start = tokens.at.start();
         tokens.at.advance();
-        let body = self.again(tokens, Rule::Statement)?;
-        tokens.at.expect_word(Keyword::While)?;
-        let test = self.in_parens(tokens)?;
+        let body = self.again(tokens, Rule::Statement);
+        tokens.expect_word(Keyword::While);
+        let test = self.in_parens(tokens);
         let _ = tokens.at.eat(TokenKind::Semicolon);
         let span = tokens.at.from(start);
-        parsed(DoWhileStmt { span, test, body }.into_tree(self.alloc()))
+        tokens.made(DoWhileStmt { span, test, body }.into_tree(self.alloc()))
     }
 
     // What a `for` declares, or its first expression.
-    fn head(&self, tokens: &mut Tokens<'_>) -> Result<Head, ParseError>
+    fn head(&self, tokens: &mut Tokens<'_>) -> Head
         requires { Nests self.now.expressions.values.types.grammar.depth (F.pre self.now.expressions.values.types.grammar.parse) }
     {
         let start = tokens.at.start();
@@ -65,24 +65,24 @@ impl<F: Fn(Global, &mut Tokens<'_>, usize, Rule) -> Result<Tree, ParseError>> St
             _ => false,
         };
         if declares {
-            return Ok(Head {
-                left: self.variables(tokens, opening, false)?,
+            return Head {
+                left: self.variables(tokens, opening, false),
                 declared: true,
-            });
+            };
         }
         if (is_using(tokens.at) && !next.is_word(Keyword::Of)) || is_await_using(tokens.at) {
-            return Ok(Head {
-                left: self.using(tokens, start, false)?,
+            return Head {
+                left: self.using(tokens, start, false),
                 declared: true,
-            });
+            };
         }
-        Ok(Head {
-            left: self.expressions.expression(tokens)?,
+        Head {
+            left: self.expressions.expression(tokens),
             declared: false,
-        })
+        }
     }
 
-    pub fn for_loop(&self, tokens: &mut Tokens<'_>) -> Result<Tree, ParseError>
+    pub fn for_loop(&self, tokens: &mut Tokens<'_>) -> Tree
         requires { Nests self.now.expressions.values.types.grammar.depth (F.pre self.now.expressions.values.types.grammar.parse) }
     {
         let start = tokens.at.start();
@@ -91,8 +91,8 @@ impl<F: Fn(Global, &mut Tokens<'_>, usize, Rule) -> Result<Tree, ParseError>> St
         if is_await && !tokens.at.within().function {
             tokens.note_module();
         }
-        tokens.at.expect(TokenKind::LParen)?;
-        let saved = tokens.at;
+        tokens.expect(TokenKind::LParen);
+        let saved = tokens.save();
         if tokens.at.is(TokenKind::Semicolon) {
             return self.counted(tokens, start, Tree::Absent);
         }
@@ -100,7 +100,7 @@ impl<F: Fn(Global, &mut Tokens<'_>, usize, Rule) -> Result<Tree, ParseError>> St
             return self.walked_target(tokens, start, is_await);
         }
         set_no_in(tokens, true);
-        let Head { left, declared } = self.head(tokens)?;
+        let Head { left, declared } = self.head(tokens);
         set_no_in(tokens, false);
         if !walks(tokens.at) {
             return self.counted(tokens, start, left);
@@ -108,34 +108,23 @@ impl<F: Fn(Global, &mut Tokens<'_>, usize, Rule) -> Result<Tree, ParseError>> St
         if declared {
             return self.walked(tokens, start, left, is_await);
         }
-        tokens.note(Note::Walked, saved.place())?;
-        tokens.at = saved;
+        tokens.note(Note::Walked, saved.at.place());
+        tokens.go_back(saved);
         self.walked_target(tokens, start, is_await)
     }
 
     // What is assigned to in the head of a `for`, and what stands behind it.
-    fn walked_target(
-        &self,
-        tokens: &mut Tokens<'_>,
-        start: SourcePos,
-        is_await: bool,
-    ) -> Result<Tree, ParseError>
+    fn walked_target(&self, tokens: &mut Tokens<'_>, start: SourcePos, is_await: bool) -> Tree
         requires { Nests self.now.expressions.values.types.grammar.depth (F.pre self.now.expressions.values.types.grammar.parse) }
     {
         set_no_in(tokens, true);
-        let target = self.expressions.values.target(tokens)?;
+        let target = self.expressions.values.target(tokens);
         set_no_in(tokens, false);
         self.walked(tokens, start, target, is_await)
     }
 
     // `of a) b` or `in a) b`
-    fn walked(
-        &self,
-        tokens: &mut Tokens<'_>,
-        start: SourcePos,
-        left: Tree,
-        is_await: bool,
-    ) -> Result<Tree, ParseError>
+    fn walked(&self, tokens: &mut Tokens<'_>, start: SourcePos, left: Tree, is_await: bool) -> Tree
         requires { Nests self.now.expressions.values.types.grammar.depth (F.pre self.now.expressions.values.types.grammar.parse) }
     {
         let alloc = self.alloc();
@@ -146,9 +135,9 @@ impl<F: Fn(Global, &mut Tokens<'_>, usize, Rule) -> Result<Tree, ParseError>> St
         } else {
             Rule::Expression
         };
-        let right = self.again(tokens, rule)?;
-        tokens.at.expect(TokenKind::RParen)?;
-        let body = self.again(tokens, Rule::Statement)?;
+        let right = self.again(tokens, rule);
+        tokens.expect(TokenKind::RParen);
+        let body = self.again(tokens, Rule::Statement);
         let span = tokens.at.from(start);
         let made = if is_of {
             ForOfStmt {
@@ -168,26 +157,21 @@ impl<F: Fn(Global, &mut Tokens<'_>, usize, Rule) -> Result<Tree, ParseError>> St
             }
             .into_tree(alloc)
         };
-        parsed(made)
+        tokens.made(made)
     }
 
     // `; a; b) c`
-    fn counted(
-        &self,
-        tokens: &mut Tokens<'_>,
-        start: SourcePos,
-        init: Tree,
-    ) -> Result<Tree, ParseError>
+    fn counted(&self, tokens: &mut Tokens<'_>, start: SourcePos, init: Tree) -> Tree
         requires { Nests self.now.expressions.values.types.grammar.depth (F.pre self.now.expressions.values.types.grammar.parse) }
     {
-        tokens.at.expect(TokenKind::Semicolon)?;
+        tokens.expect(TokenKind::Semicolon);
         let has_test = !tokens.at.is(TokenKind::Semicolon);
-        let test = self.again_if(tokens, has_test, Rule::Expression)?;
-        tokens.at.expect(TokenKind::Semicolon)?;
+        let test = self.again_if(tokens, has_test, Rule::Expression);
+        tokens.expect(TokenKind::Semicolon);
         let has_update = !tokens.at.is(TokenKind::RParen);
-        let update = self.again_if(tokens, has_update, Rule::Expression)?;
-        tokens.at.expect(TokenKind::RParen)?;
-        let body = self.again(tokens, Rule::Statement)?;
+        let update = self.again_if(tokens, has_update, Rule::Expression);
+        tokens.expect(TokenKind::RParen);
+        let body = self.again(tokens, Rule::Statement);
         let made = ForStmt {
             span: tokens.at.from(start),
             init,
@@ -195,6 +179,6 @@ impl<F: Fn(Global, &mut Tokens<'_>, usize, Rule) -> Result<Tree, ParseError>> St
             update,
             body,
         };
-        parsed(made.into_tree(self.alloc()))
+        tokens.made(made.into_tree(self.alloc()))
     }
 }

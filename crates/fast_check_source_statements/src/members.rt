@@ -3,9 +3,7 @@ ghost use Rattle.fast_check_source_grammar.specs.Nests.{Nests};
 
 use crate::modifiers::{Modifiers, member_modifiers, method_kind, param_modifiers};
 use crate::statements::Statements;
-use fast_check_source_grammar::{
-    Cursor, ParseError, Rule, Tokens, ident_name, parsed, private_name,
-};
+use fast_check_source_grammar::{Cursor, Rule, Tokens, ident_name, private_name};
 use fast_check_source_lexer::{Keyword, TokenKind};
 use fast_check_source_types::sees_index;
 use fast_check_source_values::{Marks, enter_function};
@@ -39,12 +37,12 @@ const PLAIN: Marks = Marks {
 
 fn private_prop(
     alloc: Global,
-    tokens: &Tokens<'_>,
+    tokens: &mut Tokens<'_>,
     member: Member,
     type_ann: Tree,
     value: Tree,
     definite: bool,
-) -> Result<Tree, ParseError> {
+) -> Tree {
     let Member {
         start,
         decorators,
@@ -67,17 +65,17 @@ fn private_prop(
         readonly: marks.readonly,
         definite,
     };
-    parsed(made.into_tree(alloc))
+    tokens.made(made.into_tree(alloc))
 }
 
 fn class_prop(
     alloc: Global,
-    tokens: &Tokens<'_>,
+    tokens: &mut Tokens<'_>,
     member: Member,
     type_ann: Tree,
     value: Tree,
     definite: bool,
-) -> Result<Tree, ParseError> {
+) -> Tree {
     let Member {
         start,
         decorators,
@@ -101,17 +99,17 @@ fn class_prop(
         declare: marks.declare,
         definite,
     };
-    parsed(made.into_tree(alloc))
+    tokens.made(made.into_tree(alloc))
 }
 
 fn auto_accessor(
     alloc: Global,
-    tokens: &Tokens<'_>,
+    tokens: &mut Tokens<'_>,
     member: Member,
     type_ann: Tree,
     value: Tree,
     definite: bool,
-) -> Result<Tree, ParseError> {
+) -> Tree {
     let Member {
         start,
         decorators,
@@ -131,12 +129,12 @@ fn auto_accessor(
         is_override: marks.is_override,
         definite,
     };
-    parsed(made.into_tree(alloc))
+    tokens.made(made.into_tree(alloc))
 }
 
-impl<F: Fn(Global, &mut Tokens<'_>, usize, Rule) -> Result<Tree, ParseError>> Statements<F> {
+impl<F: Fn(Global, &mut Tokens<'_>, usize, Rule) -> Tree> Statements<F> {
     /// A member of a class.
-    pub fn class_member(&self, tokens: &mut Tokens<'_>) -> Result<Tree, ParseError>
+    pub fn class_member(&self, tokens: &mut Tokens<'_>) -> Tree
         requires { Nests self.now.expressions.values.types.grammar.depth (F.pre self.now.expressions.values.types.grammar.parse) }
     {
         let start = tokens.at.start();
@@ -146,7 +144,7 @@ impl<F: Fn(Global, &mut Tokens<'_>, usize, Rule) -> Result<Tree, ParseError>> St
         if is_static_block(tokens.at) {
             return self.static_block(tokens);
         }
-        let decorators = self.expressions.values.decorators(tokens)?;
+        let decorators = self.expressions.values.decorators(tokens);
         let marks = member_modifiers(tokens);
         if sees_index(tokens) {
             return self
@@ -162,9 +160,9 @@ impl<F: Fn(Global, &mut Tokens<'_>, usize, Rule) -> Result<Tree, ParseError>> St
         let is_generator = tokens.at.eat(TokenKind::Star);
         let is_private = tokens.at.is(TokenKind::PrivateName);
         let key = if is_private {
-            private_name(self.alloc(), tokens)?
+            private_name(self.alloc(), tokens)
         } else {
-            self.expressions.values.types.prop_name(tokens)?
+            self.expressions.values.types.prop_name(tokens)
         };
         let member = Member {
             start,
@@ -185,16 +183,16 @@ impl<F: Fn(Global, &mut Tokens<'_>, usize, Rule) -> Result<Tree, ParseError>> St
         }
     }
 
-    fn static_block(&self, tokens: &mut Tokens<'_>) -> Result<Tree, ParseError>
+    fn static_block(&self, tokens: &mut Tokens<'_>) -> Tree
         requires { Nests self.now.expressions.values.types.grammar.depth (F.pre self.now.expressions.values.types.grammar.parse) }
     {
         let start = tokens.at.start();
         tokens.at.advance();
         let outer = enter_function(tokens, PLAIN);
-        let body = self.again(tokens, Rule::Body)?;
+        let body = self.again(tokens, Rule::Body);
         let _ = tokens.at.enter(outer);
         let span = tokens.at.from(start);
-        parsed(StaticBlock { span, body }.into_tree(self.alloc()))
+        tokens.made(StaticBlock { span, body }.into_tree(self.alloc()))
     }
 
     fn method(
@@ -203,7 +201,7 @@ impl<F: Fn(Global, &mut Tokens<'_>, usize, Rule) -> Result<Tree, ParseError>> St
         member: Member,
         kind: Form,
         is_generator: bool,
-    ) -> Result<Tree, ParseError>
+    ) -> Tree
         requires { Nests self.now.expressions.values.types.grammar.depth (F.pre self.now.expressions.values.types.grammar.parse) }
     {
         let alloc = self.alloc();
@@ -222,7 +220,7 @@ impl<F: Fn(Global, &mut Tokens<'_>, usize, Rule) -> Result<Tree, ParseError>> St
         let function = self
             .expressions
             .values
-            .function(tokens, start, before, decorators)?;
+            .function(tokens, start, before, decorators);
         let span = tokens.at.from(start);
         let kind = Tree::Word(kind);
         let made = if is_private {
@@ -252,20 +250,20 @@ impl<F: Fn(Global, &mut Tokens<'_>, usize, Rule) -> Result<Tree, ParseError>> St
             }
             .into_tree(alloc)
         };
-        parsed(made)
+        tokens.made(made)
     }
 
-    fn field(&self, tokens: &mut Tokens<'_>, member: Member) -> Result<Tree, ParseError>
+    fn field(&self, tokens: &mut Tokens<'_>, member: Member) -> Tree
         requires { Nests self.now.expressions.values.types.grammar.depth (F.pre self.now.expressions.values.types.grammar.parse) }
     {
         let alloc = self.alloc();
         let definite = !member.optional && !tokens.at.newline() && tokens.at.eat(TokenKind::Not);
-        let type_ann = self.expressions.values.types.annotation(tokens)?;
+        let type_ann = self.expressions.values.types.annotation(tokens);
         let has_value = tokens.at.eat(TokenKind::Assign);
         let outer = enter_function(tokens, PLAIN);
-        let value = self.again_if(tokens, has_value, Rule::Assigned)?;
+        let value = self.again_if(tokens, has_value, Rule::Assigned);
         let _ = tokens.at.enter(outer);
-        tokens.at.end_statement()?;
+        tokens.end_statement();
         if member.marks.accessor {
             auto_accessor(alloc, tokens, member, type_ann, value, definite)
         } else if member.is_private {
@@ -275,28 +273,23 @@ impl<F: Fn(Global, &mut Tokens<'_>, usize, Rule) -> Result<Tree, ParseError>> St
         }
     }
 
-    fn constructor(
-        &self,
-        tokens: &mut Tokens<'_>,
-        start: SourcePos,
-        marks: Modifiers,
-    ) -> Result<Tree, ParseError>
+    fn constructor(&self, tokens: &mut Tokens<'_>, start: SourcePos, marks: Modifiers) -> Tree
         requires { Nests self.now.expressions.values.types.grammar.depth (F.pre self.now.expressions.values.types.grammar.parse) }
     {
         let alloc = self.alloc();
-        let key = ident_name(alloc, tokens)?;
+        let key = ident_name(alloc, tokens);
         let outer = enter_function(tokens, PLAIN);
-        tokens.at.expect(TokenKind::LParen)?;
+        tokens.expect(TokenKind::LParen);
         let params = self.expressions.values.types.grammar.list(
             tokens,
             Rule::ConstructorParam,
             TokenKind::Comma,
             TokenKind::RParen,
-        )?;
+        );
         let body = if tokens.at.is(TokenKind::LBrace) {
-            self.again(tokens, Rule::Body)?
+            self.again(tokens, Rule::Body)
         } else {
-            tokens.at.end_statement()?;
+            tokens.end_statement();
             Tree::Absent
         };
         let _ = tokens.at.enter(outer);
@@ -309,18 +302,18 @@ impl<F: Fn(Global, &mut Tokens<'_>, usize, Rule) -> Result<Tree, ParseError>> St
             accessibility: marks.accessibility(),
             is_optional: false,
         };
-        parsed(made.into_tree(alloc))
+        tokens.made(made.into_tree(alloc))
     }
 
     /// A parameter of a constructor, which may be a property too.
-    pub fn constructor_param(&self, tokens: &mut Tokens<'_>) -> Result<Tree, ParseError>
+    pub fn constructor_param(&self, tokens: &mut Tokens<'_>) -> Tree
         requires { Nests self.now.expressions.values.types.grammar.depth (F.pre self.now.expressions.values.types.grammar.parse) }
     {
         let alloc = self.alloc();
         let start = tokens.at.start();
-        let decorators = self.expressions.values.decorators(tokens)?;
+        let decorators = self.expressions.values.decorators(tokens);
         let marks = param_modifiers(tokens);
-        let param = self.expressions.values.types.param(tokens)?;
+        let param = self.expressions.values.types.param(tokens);
         let span = tokens.at.from(start);
         let made = if marks.declares_property() {
             TsParamProp {
@@ -340,6 +333,6 @@ impl<F: Fn(Global, &mut Tokens<'_>, usize, Rule) -> Result<Tree, ParseError>> St
             }
             .into_tree(alloc)
         };
-        parsed(made)
+        tokens.made(made)
     }
 }

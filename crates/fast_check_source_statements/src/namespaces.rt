@@ -2,7 +2,7 @@
 ghost use Rattle.fast_check_source_grammar.specs.Nests.{Nests};
 
 use crate::statements::{Opening, Statements};
-use fast_check_source_grammar::{ParseError, Rule, Tokens, ident, parsed, string, word_ident};
+use fast_check_source_grammar::{ParseError, Rule, Tokens, ident, string, word_ident};
 use fast_check_source_lexer::{Keyword, TokenKind};
 use fast_check_tree_forms_statements::{TsModuleBlock, TsModuleDecl, TsNamespaceDecl};
 use fast_check_tree_syntax::{SourcePos, Tree};
@@ -15,19 +15,19 @@ struct Inner {
     id: Tree,
 }
 
-impl<F: Fn(Global, &mut Tokens<'_>, usize, Rule) -> Result<Tree, ParseError>> Statements<F> {
-    fn module_block(&self, tokens: &mut Tokens<'_>) -> Result<Tree, ParseError>
+impl<F: Fn(Global, &mut Tokens<'_>, usize, Rule) -> Tree> Statements<F> {
+    fn module_block(&self, tokens: &mut Tokens<'_>) -> Tree
         requires { Nests self.now.expressions.values.types.grammar.depth (F.pre self.now.expressions.values.types.grammar.parse) }
     {
         let start = tokens.at.start();
-        tokens.at.expect(TokenKind::LBrace)?;
-        let body = self.up_to_brace(tokens, Rule::Item)?;
+        tokens.expect(TokenKind::LBrace);
+        let body = self.up_to_brace(tokens, Rule::Item);
         let span = tokens.at.from(start);
-        parsed(TsModuleBlock { span, body }.into_tree(self.alloc()))
+        tokens.made(TsModuleBlock { span, body }.into_tree(self.alloc()))
     }
 
     // `.b.c { .. }`, `{ .. }`, or nothing where that may be, behind the name of a namespace.
-    fn namespace_body(&self, tokens: &mut Tokens<'_>, may_end: bool) -> Result<Tree, ParseError>
+    fn namespace_body(&self, tokens: &mut Tokens<'_>, may_end: bool) -> Tree
         requires { Nests self.now.expressions.values.types.grammar.depth (F.pre self.now.expressions.values.types.grammar.parse) }
     {
         let alloc = self.alloc();
@@ -36,16 +36,18 @@ impl<F: Fn(Global, &mut Tokens<'_>, usize, Rule) -> Result<Tree, ParseError>> St
             if !tokens.at.eat(TokenKind::Dot) {
                 break;
             }
-            tokens.link()?;
+            tokens.link();
             let start = tokens.at.start();
-            let id = word_ident(alloc, tokens)?;
-            names.push(Inner { start, id })?;
+            let id = word_ident(alloc, tokens);
+            if names.push(Inner { start, id }).is_err() {
+                tokens.stop(ParseError::Memory);
+            }
         }
         if may_end && names.is_empty() && !tokens.at.is(TokenKind::LBrace) {
-            tokens.at.end_statement()?;
-            return Ok(Tree::Absent);
+            tokens.end_statement();
+            return Tree::Absent;
         }
-        let mut body = self.module_block(tokens)?;
+        let mut body = self.module_block(tokens);
         for _turn in 0..names.len() {
             if let Some(Inner { start, id }) = names.pop() {
                 let made = TsNamespaceDecl {
@@ -55,14 +57,14 @@ impl<F: Fn(Global, &mut Tokens<'_>, usize, Rule) -> Result<Tree, ParseError>> St
                     id,
                     body,
                 };
-                body = made.into_tree(alloc)?;
+                body = tokens.made(made.into_tree(alloc));
             }
         }
-        Ok(body)
+        body
     }
 
     /// `namespace A.B {}`, `module "a" {}` or `global {}`
-    pub fn namespace(&self, tokens: &mut Tokens<'_>, opening: Opening) -> Result<Tree, ParseError>
+    pub fn namespace(&self, tokens: &mut Tokens<'_>, opening: Opening) -> Tree
         requires { Nests self.now.expressions.values.types.grammar.depth (F.pre self.now.expressions.values.types.grammar.parse) }
     {
         let alloc = self.alloc();
@@ -73,18 +75,18 @@ impl<F: Fn(Global, &mut Tokens<'_>, usize, Rule) -> Result<Tree, ParseError>> St
         }
         let may_end = global || tokens.at.is(TokenKind::String);
         let id = if tokens.at.is(TokenKind::String) {
-            string(alloc, tokens)?
+            string(alloc, tokens)
         } else {
-            ident(alloc, tokens)?
+            ident(alloc, tokens)
         };
         let made = TsModuleDecl {
             declare: opening.declare,
             global,
             namespace,
             id,
-            body: self.namespace_body(tokens, may_end)?,
+            body: self.namespace_body(tokens, may_end),
             span: tokens.at.from(opening.start),
         };
-        parsed(made.into_tree(alloc))
+        tokens.made(made.into_tree(alloc))
     }
 }

@@ -2,7 +2,7 @@
 ghost use Rattle.fast_check_source_grammar.specs.Nests.{Nests};
 
 use fast_check_source_expressions::Expressions;
-use fast_check_source_grammar::{Cursor, ParseError, Rule, Tokens, is_reserved, parsed};
+use fast_check_source_grammar::{Cursor, Rule, Tokens, Trees, is_reserved};
 use fast_check_source_imports::import;
 use fast_check_source_lexer::{Keyword, TokenKind};
 use fast_check_tree_forms_statements::{BlockStmt, EmptyStmt};
@@ -92,36 +92,31 @@ fn is_import_value(at: Cursor<'_>) -> bool {
     next.is(TokenKind::LParen) || next.is(TokenKind::Dot)
 }
 
-impl<F: Fn(Global, &mut Tokens<'_>, usize, Rule) -> Result<Tree, ParseError>> Statements<F> {
+impl<F: Fn(Global, &mut Tokens<'_>, usize, Rule) -> Tree> Statements<F> {
     pub fn alloc(&self) -> Global {
         self.expressions.values.types.grammar.alloc
     }
 
     /// The tree of a nested rule.
-    pub fn again(&self, tokens: &mut Tokens<'_>, rule: Rule) -> Result<Tree, ParseError>
+    pub fn again(&self, tokens: &mut Tokens<'_>, rule: Rule) -> Tree
         requires { Nests self.now.expressions.values.types.grammar.depth (F.pre self.now.expressions.values.types.grammar.parse) }
     {
         self.expressions.values.types.grammar.again(tokens, rule)
     }
 
     /// The tree of a nested rule where there is one.
-    pub fn again_if(
-        &self,
-        tokens: &mut Tokens<'_>,
-        is_there: bool,
-        rule: Rule,
-    ) -> Result<Tree, ParseError>
+    pub fn again_if(&self, tokens: &mut Tokens<'_>, is_there: bool, rule: Rule) -> Tree
         requires { Nests self.now.expressions.values.types.grammar.depth (F.pre self.now.expressions.values.types.grammar.parse) }
     {
         if is_there {
             self.again(tokens, rule)
         } else {
-            Ok(Tree::Absent)
+            Tree::Absent
         }
     }
 
     /// An item of a module or of a namespace.
-    pub fn item(&self, tokens: &mut Tokens<'_>) -> Result<Tree, ParseError>
+    pub fn item(&self, tokens: &mut Tokens<'_>) -> Tree
         requires { Nests self.now.expressions.values.types.grammar.depth (F.pre self.now.expressions.values.types.grammar.parse) }
     {
         if tokens.at.is_word(Keyword::Import) && !is_import_value(tokens.at) {
@@ -134,7 +129,7 @@ impl<F: Fn(Global, &mut Tokens<'_>, usize, Rule) -> Result<Tree, ParseError>> St
     }
 
     /// A statement or a declaration.
-    pub fn statement(&self, tokens: &mut Tokens<'_>) -> Result<Tree, ParseError>
+    pub fn statement(&self, tokens: &mut Tokens<'_>) -> Tree
         requires { Nests self.now.expressions.values.types.grammar.depth (F.pre self.now.expressions.values.types.grammar.parse) }
     {
         let start = tokens.at.start();
@@ -153,7 +148,7 @@ impl<F: Fn(Global, &mut Tokens<'_>, usize, Rule) -> Result<Tree, ParseError>> St
     }
 
     /// A declaration that comes next, behind `declare`.
-    pub fn declaration(&self, tokens: &mut Tokens<'_>, opening: Opening) -> Result<Tree, ParseError>
+    pub fn declaration(&self, tokens: &mut Tokens<'_>, opening: Opening) -> Tree
         requires { Nests self.now.expressions.values.types.grammar.depth (F.pre self.now.expressions.values.types.grammar.parse) }
     {
         match tokens.at.word() {
@@ -164,11 +159,7 @@ impl<F: Fn(Global, &mut Tokens<'_>, usize, Rule) -> Result<Tree, ParseError>> St
                 tokens, opening,
             ),
             Keyword::Enum => self.enumeration(tokens, opening),
-            Keyword::Class | Keyword::Abstract => self.class(
-                tokens,
-                opening,
-                Tree::list(self.none()),
-            ),
+            Keyword::Class | Keyword::Abstract => self.class(tokens, opening, self.nothing()),
             Keyword::Namespace | Keyword::Module | Keyword::Global => self.namespace(
                 tokens, opening,
             ),
@@ -177,44 +168,48 @@ impl<F: Fn(Global, &mut Tokens<'_>, usize, Rule) -> Result<Tree, ParseError>> St
         }
     }
 
-    pub fn none(&self) -> Items<Tree> {
-        Items::new(self.alloc())
+    pub fn none(&self) -> Trees {
+        Trees::new(self.alloc())
+    }
+
+    pub fn nothing(&self) -> Tree {
+        Tree::list(Items::new(self.alloc()))
     }
 
     /// The items of a rule up to a `}`, which is passed.
-    pub fn up_to_brace(&self, tokens: &mut Tokens<'_>, rule: Rule) -> Result<Tree, ParseError>
+    pub fn up_to_brace(&self, tokens: &mut Tokens<'_>, rule: Rule) -> Tree
         requires { Nests self.now.expressions.values.types.grammar.depth (F.pre self.now.expressions.values.types.grammar.parse) }
     {
         let mut items = self.none();
         for _turn in 0..tokens.at.left() {
-            if tokens.at.is(TokenKind::RBrace) {
+            if tokens.at.closes(TokenKind::RBrace) {
                 break;
             }
-            items.push(self.again(tokens, rule)?)?;
+            items.push(self.again(tokens, rule));
         }
-        tokens.at.expect(TokenKind::RBrace)?;
-        Ok(Tree::list(items))
+        tokens.expect(TokenKind::RBrace);
+        tokens.list(items)
     }
 
     /// `{ .. }` of statements.
-    pub fn block(&self, tokens: &mut Tokens<'_>) -> Result<Tree, ParseError>
+    pub fn block(&self, tokens: &mut Tokens<'_>) -> Tree
         requires { Nests self.now.expressions.values.types.grammar.depth (F.pre self.now.expressions.values.types.grammar.parse) }
     {
         let start = tokens.at.start();
-        tokens.at.expect(TokenKind::LBrace)?;
-        let stmts = self.up_to_brace(tokens, Rule::Statement)?;
+        tokens.expect(TokenKind::LBrace);
+        let stmts = self.up_to_brace(tokens, Rule::Statement);
         let made = BlockStmt {
             span: tokens.at.from(start),
             ctxt: SyntaxContext(0),
             stmts,
         };
-        parsed(made.into_tree(self.alloc()))
+        tokens.made(made.into_tree(self.alloc()))
     }
 
     /// A lone `;`.
-    pub fn empty(&self, tokens: &mut Tokens<'_>) -> Result<Tree, ParseError> {
+    pub fn empty(&self, tokens: &mut Tokens<'_>) -> Tree {
         let span = tokens.at.here();
         tokens.at.advance();
-        parsed(EmptyStmt { span }.into_tree(self.alloc()))
+        tokens.made(EmptyStmt { span }.into_tree(self.alloc()))
     }
 }

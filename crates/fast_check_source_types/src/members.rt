@@ -3,7 +3,7 @@ ghost use Rattle.fast_check_source_grammar.specs.Nests.{Nests};
 
 use crate::look_ahead::{can_follow_modifier, sees_accessor, sees_index};
 use crate::types::Types;
-use fast_check_source_grammar::{ParseError, Rule, Tokens, literal_key, parsed};
+use fast_check_source_grammar::{Rule, Tokens, Trees, literal_key, word};
 use fast_check_source_lexer::{Keyword, TokenKind};
 use fast_check_tree_forms_classes::TsIndexSignature;
 use fast_check_tree_forms_programs::{BindingIdent, Ident};
@@ -11,15 +11,13 @@ use fast_check_tree_forms_types::{
     TsCallSignatureDecl, TsConstructSignatureDecl, TsGetterSignature, TsMethodSignature,
     TsPropertySignature, TsSetterSignature,
 };
-use fast_check_tree_syntax::{Items, SourcePos, SyntaxContext, Tree};
+use fast_check_tree_syntax::{SourcePos, SyntaxContext, Tree};
 use std::alloc::Global;
 
 /// Passes what ends a member.
-fn end_member(tokens: &mut Tokens<'_>) -> Result<(), ParseError> {
-    if tokens.at.eat(TokenKind::Comma) {
-        Ok(())
-    } else {
-        tokens.at.end_statement()
+fn end_member(tokens: &mut Tokens<'_>) {
+    if !tokens.at.eat(TokenKind::Comma) {
+        tokens.end_statement();
     }
 }
 
@@ -66,25 +64,25 @@ struct Key {
     computed: bool,
 }
 
-impl<F: Fn(Global, &mut Tokens<'_>, usize, Rule) -> Result<Tree, ParseError>> Types<F> {
+impl<F: Fn(Global, &mut Tokens<'_>, usize, Rule) -> Tree> Types<F> {
     /// `{ .. }` of members.
-    pub fn members(&self, tokens: &mut Tokens<'_>) -> Result<Tree, ParseError>
+    pub fn members(&self, tokens: &mut Tokens<'_>) -> Tree
         requires { Nests self.now.grammar.depth (F.pre self.now.grammar.parse) }
     {
-        tokens.at.expect(TokenKind::LBrace)?;
-        let mut members = Items::new(self.grammar.alloc);
+        tokens.expect(TokenKind::LBrace);
+        let mut members = Trees::new(self.grammar.alloc);
         for _turn in 0..tokens.at.left() {
-            if tokens.at.is(TokenKind::RBrace) {
+            if tokens.at.closes(TokenKind::RBrace) {
                 break;
             }
-            members.push(self.grammar.again(tokens, Rule::Member)?)?;
+            members.push(self.grammar.again(tokens, Rule::Member));
         }
-        tokens.at.expect(TokenKind::RBrace)?;
-        Ok(Tree::list(members))
+        tokens.expect(TokenKind::RBrace);
+        tokens.list(members)
     }
 
     /// A member of an interface or an object type.
-    pub fn member(&self, tokens: &mut Tokens<'_>) -> Result<Tree, ParseError>
+    pub fn member(&self, tokens: &mut Tokens<'_>) -> Tree
         requires { Nests self.now.grammar.depth (F.pre self.now.grammar.parse) }
     {
         let start = tokens.at.start();
@@ -108,7 +106,7 @@ impl<F: Fn(Global, &mut Tokens<'_>, usize, Rule) -> Result<Tree, ParseError>> Ty
                 self.setter(tokens, start)
             };
         }
-        let key = self.key(tokens)?;
+        let key = self.key(tokens);
         let optional = tokens.at.eat(TokenKind::Question);
         if opens_signature(tokens.at.kind()) {
             self.method(tokens, start, key, optional)
@@ -117,50 +115,47 @@ impl<F: Fn(Global, &mut Tokens<'_>, usize, Rule) -> Result<Tree, ParseError>> Ty
         }
     }
 
-    fn call_signature(&self, tokens: &mut Tokens<'_>, start: SourcePos) -> Result<Tree, ParseError>
+    fn call_signature(&self, tokens: &mut Tokens<'_>, start: SourcePos) -> Tree
         requires { Nests self.now.grammar.depth (F.pre self.now.grammar.parse) }
     {
-        let type_params = self.type_params(tokens)?;
-        let params = self.params(tokens)?;
-        let type_ann = self.result(tokens)?;
-        end_member(tokens)?;
+        let type_params = self.type_params(tokens);
+        let params = self.params(tokens);
+        let type_ann = self.result(tokens);
+        end_member(tokens);
         let made = TsCallSignatureDecl {
             span: tokens.at.from(start),
             params,
             type_ann,
             type_params,
         };
-        parsed(made.into_tree(self.grammar.alloc))
+        tokens.made(made.into_tree(self.grammar.alloc))
     }
 
-    fn construct_signature(
-        &self,
-        tokens: &mut Tokens<'_>,
-        start: SourcePos,
-    ) -> Result<Tree, ParseError>
+    fn construct_signature(&self, tokens: &mut Tokens<'_>, start: SourcePos) -> Tree
         requires { Nests self.now.grammar.depth (F.pre self.now.grammar.parse) }
     {
-        let type_params = self.type_params(tokens)?;
-        let params = self.params(tokens)?;
-        let type_ann = self.result(tokens)?;
-        end_member(tokens)?;
+        let type_params = self.type_params(tokens);
+        let params = self.params(tokens);
+        let type_ann = self.result(tokens);
+        end_member(tokens);
         let made = TsConstructSignatureDecl {
             span: tokens.at.from(start),
             params,
             type_ann,
             type_params,
         };
-        parsed(made.into_tree(self.grammar.alloc))
+        tokens.made(made.into_tree(self.grammar.alloc))
     }
 
     // `key: A`, whose name's range takes in the type.
-    fn index_param(&self, tokens: &mut Tokens<'_>) -> Result<Tree, ParseError>
+    fn index_param(&self, tokens: &mut Tokens<'_>) -> Tree
         requires { Nests self.now.grammar.depth (F.pre self.now.grammar.parse) }
     {
         let start = tokens.at.start();
-        let sym = tokens.name(self.grammar.alloc, 0)?;
-        tokens.at.expect(TokenKind::Name)?;
-        let type_ann = self.annotation(tokens)?;
+        let Some(sym) = word(self.grammar.alloc, tokens) else {
+            return Tree::Absent;
+        };
+        let type_ann = self.annotation(tokens);
         let id = Ident {
             span: tokens.at.from(start),
             ctxt: SyntaxContext(0),
@@ -168,10 +163,10 @@ impl<F: Fn(Global, &mut Tokens<'_>, usize, Rule) -> Result<Tree, ParseError>> Ty
             optional: false,
         };
         let made = BindingIdent {
-            id: id.into_tree(self.grammar.alloc)?,
+            id: tokens.made(id.into_tree(self.grammar.alloc)),
             type_ann,
         };
-        parsed(made.into_tree(self.grammar.alloc))
+        tokens.made(made.into_tree(self.grammar.alloc))
     }
 
     /// `[key: A]: B`
@@ -181,89 +176,83 @@ impl<F: Fn(Global, &mut Tokens<'_>, usize, Rule) -> Result<Tree, ParseError>> Ty
         start: SourcePos,
         readonly: bool,
         is_static: bool,
-    ) -> Result<Tree, ParseError>
+    ) -> Tree
         requires { Nests self.now.grammar.depth (F.pre self.now.grammar.parse) }
     {
         tokens.at.advance();
-        let mut params = Items::new(self.grammar.alloc);
-        params.push(self.index_param(tokens)?)?;
-        tokens.at.expect(TokenKind::RBracket)?;
-        let type_ann = self.annotation(tokens)?;
-        end_member(tokens)?;
+        let mut params = Trees::new(self.grammar.alloc);
+        params.push(self.index_param(tokens));
+        tokens.expect(TokenKind::RBracket);
+        let type_ann = self.annotation(tokens);
+        end_member(tokens);
         let made = TsIndexSignature {
             span: tokens.at.from(start),
-            params: Tree::list(params),
+            params: tokens.list(params),
             type_ann,
             readonly,
             is_static,
         };
-        parsed(made.into_tree(self.grammar.alloc))
+        tokens.made(made.into_tree(self.grammar.alloc))
     }
 
-    fn key(&self, tokens: &mut Tokens<'_>) -> Result<Key, ParseError>
+    fn key(&self, tokens: &mut Tokens<'_>) -> Key
         requires { Nests self.now.grammar.depth (F.pre self.now.grammar.parse) }
     {
         if !tokens.at.eat(TokenKind::LBracket) {
-            return Ok(Key {
-                key: literal_key(self.grammar.alloc, tokens)?,
+            return Key {
+                key: literal_key(self.grammar.alloc, tokens),
                 computed: false,
-            });
+            };
         }
-        let key = self.grammar.again(tokens, Rule::Expression)?;
-        tokens.at.expect(TokenKind::RBracket)?;
-        Ok(Key {
+        let key = self.grammar.again(tokens, Rule::Expression);
+        tokens.expect(TokenKind::RBracket);
+        Key {
             key,
             computed: true,
-        })
+        }
     }
 
-    fn getter(&self, tokens: &mut Tokens<'_>, start: SourcePos) -> Result<Tree, ParseError>
+    fn getter(&self, tokens: &mut Tokens<'_>, start: SourcePos) -> Tree
         requires { Nests self.now.grammar.depth (F.pre self.now.grammar.parse) }
     {
-        let Key { key, computed } = self.key(tokens)?;
-        tokens.at.expect(TokenKind::LParen)?;
-        tokens.at.expect(TokenKind::RParen)?;
-        let type_ann = self.result(tokens)?;
-        end_member(tokens)?;
+        let Key { key, computed } = self.key(tokens);
+        tokens.expect(TokenKind::LParen);
+        tokens.expect(TokenKind::RParen);
+        let type_ann = self.result(tokens);
+        end_member(tokens);
         let made = TsGetterSignature {
             span: tokens.at.from(start),
             key,
             computed,
             type_ann,
         };
-        parsed(made.into_tree(self.grammar.alloc))
+        tokens.made(made.into_tree(self.grammar.alloc))
     }
 
-    fn setter(&self, tokens: &mut Tokens<'_>, start: SourcePos) -> Result<Tree, ParseError>
+    fn setter(&self, tokens: &mut Tokens<'_>, start: SourcePos) -> Tree
         requires { Nests self.now.grammar.depth (F.pre self.now.grammar.parse) }
     {
-        let Key { key, computed } = self.key(tokens)?;
-        let params = self.params(tokens)?;
-        let _ = self.result(tokens)?;
-        end_member(tokens)?;
+        let Key { key, computed } = self.key(tokens);
+        let params = self.params(tokens);
+        let _ = self.result(tokens);
+        end_member(tokens);
         let made = TsSetterSignature {
             span: tokens.at.from(start),
             key,
             computed,
             params,
         };
-        parsed(made.into_tree(self.grammar.alloc))
+        tokens.made(made.into_tree(self.grammar.alloc))
     }
 
-    fn method(
-        &self,
-        tokens: &mut Tokens<'_>,
-        start: SourcePos,
-        key: Key,
-        optional: bool,
-    ) -> Result<Tree, ParseError>
+    fn method(&self, tokens: &mut Tokens<'_>, start: SourcePos, key: Key, optional: bool) -> Tree
         requires { Nests self.now.grammar.depth (F.pre self.now.grammar.parse) }
     {
         let Key { key, computed } = key;
-        let type_params = self.type_params(tokens)?;
-        let params = self.params(tokens)?;
-        let type_ann = self.result(tokens)?;
-        end_member(tokens)?;
+        let type_params = self.type_params(tokens);
+        let params = self.params(tokens);
+        let type_ann = self.result(tokens);
+        end_member(tokens);
         let made = TsMethodSignature {
             span: tokens.at.from(start),
             key,
@@ -273,7 +262,7 @@ impl<F: Fn(Global, &mut Tokens<'_>, usize, Rule) -> Result<Tree, ParseError>> Ty
             type_ann,
             type_params,
         };
-        parsed(made.into_tree(self.grammar.alloc))
+        tokens.made(made.into_tree(self.grammar.alloc))
     }
 
     fn property(
@@ -283,12 +272,12 @@ impl<F: Fn(Global, &mut Tokens<'_>, usize, Rule) -> Result<Tree, ParseError>> Ty
         key: Key,
         readonly: bool,
         optional: bool,
-    ) -> Result<Tree, ParseError>
+    ) -> Tree
         requires { Nests self.now.grammar.depth (F.pre self.now.grammar.parse) }
     {
         let Key { key, computed } = key;
-        let type_ann = self.annotation(tokens)?;
-        end_member(tokens)?;
+        let type_ann = self.annotation(tokens);
+        end_member(tokens);
         let made = TsPropertySignature {
             span: tokens.at.from(start),
             key,
@@ -297,6 +286,6 @@ impl<F: Fn(Global, &mut Tokens<'_>, usize, Rule) -> Result<Tree, ParseError>> Ty
             optional,
             type_ann,
         };
-        parsed(made.into_tree(self.grammar.alloc))
+        tokens.made(made.into_tree(self.grammar.alloc))
     }
 }

@@ -3,7 +3,7 @@ ghost use Rattle.fast_check_source_grammar.specs.Nests.{Nests};
 
 use crate::types::Types;
 use fast_check_source_grammar::{
-    ParseError, Rule, Tokens, binding, ident, ident_name, number, parsed, sees_ident, string,
+    Rule, Tokens, binding, ident, ident_name, number, sees_ident, string,
 };
 use fast_check_source_lexer::{Keyword, TokenKind};
 use fast_check_tree_forms_expressions::{
@@ -14,12 +14,14 @@ use fast_check_tree_syntax::{SourcePos, SyntaxContext, Tree};
 use std::alloc::Global;
 
 // A name as an identifier, with a `?` behind it where one may stand there.
-fn optional_ident(alloc: Global, tokens: &mut Tokens<'_>) -> Result<Tree, ParseError> {
+fn optional_ident(alloc: Global, tokens: &mut Tokens<'_>) -> Tree {
     if !sees_ident(tokens) && !tokens.at.is_word(Keyword::This) {
-        return Err(tokens.at.refuse());
+        return tokens.refuse();
     }
     let span = tokens.at.here();
-    let sym = tokens.name(alloc, 0)?;
+    let Some(sym) = tokens.name(alloc, 0) else {
+        return Tree::Absent;
+    };
     tokens.at.advance();
     let made = Ident {
         span,
@@ -27,15 +29,15 @@ fn optional_ident(alloc: Global, tokens: &mut Tokens<'_>) -> Result<Tree, ParseE
         sym,
         optional: tokens.at.eat(TokenKind::Question),
     };
-    parsed(made.into_tree(alloc))
+    tokens.made(made.into_tree(alloc))
 }
 
-impl<F: Fn(Global, &mut Tokens<'_>, usize, Rule) -> Result<Tree, ParseError>> Types<F> {
+impl<F: Fn(Global, &mut Tokens<'_>, usize, Rule) -> Tree> Types<F> {
     /// `(a, b?: A, ...c)`
-    pub fn params(&self, tokens: &mut Tokens<'_>) -> Result<Tree, ParseError>
+    pub fn params(&self, tokens: &mut Tokens<'_>) -> Tree
         requires { Nests self.now.grammar.depth (F.pre self.now.grammar.parse) }
     {
-        tokens.at.expect(TokenKind::LParen)?;
+        tokens.expect(TokenKind::LParen);
         self.grammar.list(
             tokens,
             Rule::SignatureParam,
@@ -45,7 +47,7 @@ impl<F: Fn(Global, &mut Tokens<'_>, usize, Rule) -> Result<Tree, ParseError>> Ty
     }
 
     /// A parameter without decorators: a name, a pattern or the rest, with its type and its value.
-    pub fn param(&self, tokens: &mut Tokens<'_>) -> Result<Tree, ParseError>
+    pub fn param(&self, tokens: &mut Tokens<'_>) -> Tree
         requires { Nests self.now.grammar.depth (F.pre self.now.grammar.parse) }
     {
         let start = tokens.at.start();
@@ -53,41 +55,36 @@ impl<F: Fn(Global, &mut Tokens<'_>, usize, Rule) -> Result<Tree, ParseError>> Ty
             return self.rest(tokens, true);
         }
         let left = if tokens.at.is(TokenKind::LBracket) || tokens.at.is(TokenKind::LBrace) {
-            self.shape(tokens, true)?
+            self.shape(tokens, true)
         } else {
-            let id = optional_ident(self.grammar.alloc, tokens)?;
-            let type_ann = self.annotation(tokens)?;
-            BindingIdent { id, type_ann }.into_tree(self.grammar.alloc)?
+            let id = optional_ident(self.grammar.alloc, tokens);
+            let type_ann = self.annotation(tokens);
+            tokens.made(BindingIdent { id, type_ann }.into_tree(self.grammar.alloc))
         };
         self.with_default(tokens, start, left)
     }
 
-    fn with_default(
-        &self,
-        tokens: &mut Tokens<'_>,
-        start: SourcePos,
-        left: Tree,
-    ) -> Result<Tree, ParseError>
+    fn with_default(&self, tokens: &mut Tokens<'_>, start: SourcePos, left: Tree) -> Tree
         requires { Nests self.now.grammar.depth (F.pre self.now.grammar.parse) }
     {
         if !tokens.at.eat(TokenKind::Assign) {
-            return Ok(left);
+            return left;
         }
-        let right = self.grammar.again(tokens, Rule::Assigned)?;
+        let right = self.grammar.again(tokens, Rule::Assigned);
         let span = tokens.at.from(start);
-        parsed(AssignPat { span, left, right }.into_tree(self.grammar.alloc))
+        tokens.made(AssignPat { span, left, right }.into_tree(self.grammar.alloc))
     }
 
     // `...a`, with its type where it may have one.
-    fn rest(&self, tokens: &mut Tokens<'_>, annotated: bool) -> Result<Tree, ParseError>
+    fn rest(&self, tokens: &mut Tokens<'_>, annotated: bool) -> Tree
         requires { Nests self.now.grammar.depth (F.pre self.now.grammar.parse) }
     {
         let start = tokens.at.start();
         tokens.at.advance();
         let dot3_token = tokens.at.from(start);
-        let arg = self.bound(tokens)?;
+        let arg = self.bound(tokens);
         let type_ann = if annotated {
-            self.annotation(tokens)?
+            self.annotation(tokens)
         } else {
             Tree::Absent
         };
@@ -97,11 +94,11 @@ impl<F: Fn(Global, &mut Tokens<'_>, usize, Rule) -> Result<Tree, ParseError>> Ty
             arg,
             type_ann,
         };
-        parsed(made.into_tree(self.grammar.alloc))
+        tokens.made(made.into_tree(self.grammar.alloc))
     }
 
     // A name or a pattern without its type.
-    fn bound(&self, tokens: &mut Tokens<'_>) -> Result<Tree, ParseError>
+    fn bound(&self, tokens: &mut Tokens<'_>) -> Tree
         requires { Nests self.now.grammar.depth (F.pre self.now.grammar.parse) }
     {
         if tokens.at.is(TokenKind::LBracket) || tokens.at.is(TokenKind::LBrace) {
@@ -112,44 +109,38 @@ impl<F: Fn(Global, &mut Tokens<'_>, usize, Rule) -> Result<Tree, ParseError>> Ty
     }
 
     /// A variable with its type: a name or a pattern, and whether a `!` stands behind the name.
-    pub fn variable(&self, tokens: &mut Tokens<'_>) -> Result<(Tree, bool), ParseError>
+    pub fn variable(&self, tokens: &mut Tokens<'_>) -> (Tree, bool)
         requires { Nests self.now.grammar.depth (F.pre self.now.grammar.parse) }
     {
         if tokens.at.is(TokenKind::LBracket) || tokens.at.is(TokenKind::LBrace) {
-            return Ok((self.shape(tokens, true)?, false));
+            return (self.shape(tokens, true), false);
         }
-        let id = ident(self.grammar.alloc, tokens)?;
+        let id = ident(self.grammar.alloc, tokens);
         let definite = !tokens.at.newline() && tokens.at.eat(TokenKind::Not);
-        let type_ann = self.annotation(tokens)?;
-        Ok((
-            BindingIdent { id, type_ann }.into_tree(self.grammar.alloc)?,
-            definite,
-        ))
+        let type_ann = self.annotation(tokens);
+        let made = BindingIdent { id, type_ann }.into_tree(self.grammar.alloc);
+        (tokens.made(made), definite)
     }
 
     /// A variable with its type and no `!`.
-    pub fn declared(&self, tokens: &mut Tokens<'_>) -> Result<Tree, ParseError>
+    pub fn declared(&self, tokens: &mut Tokens<'_>) -> Tree
         requires { Nests self.now.grammar.depth (F.pre self.now.grammar.parse) }
     {
-        let (name, definite) = self.variable(tokens)?;
-        if definite {
-            Err(tokens.at.refuse())
-        } else {
-            Ok(name)
-        }
+        let (name, definite) = self.variable(tokens);
+        if definite { tokens.refuse() } else { name }
     }
 
     /// A pattern with a value behind `=` that stands for it, without a type.
-    pub fn pattern(&self, tokens: &mut Tokens<'_>) -> Result<Tree, ParseError>
+    pub fn pattern(&self, tokens: &mut Tokens<'_>) -> Tree
         requires { Nests self.now.grammar.depth (F.pre self.now.grammar.parse) }
     {
         let start = tokens.at.start();
-        let left = self.bound(tokens)?;
+        let left = self.bound(tokens);
         self.with_default(tokens, start, left)
     }
 
     // `[a, b]` or `{ a, b }`, with its type where it may have one.
-    fn shape(&self, tokens: &mut Tokens<'_>, annotated: bool) -> Result<Tree, ParseError>
+    fn shape(&self, tokens: &mut Tokens<'_>, annotated: bool) -> Tree
         requires { Nests self.now.grammar.depth (F.pre self.now.grammar.parse) }
     {
         let start = tokens.at.start();
@@ -161,19 +152,19 @@ impl<F: Fn(Global, &mut Tokens<'_>, usize, Rule) -> Result<Tree, ParseError>> Ty
                 Rule::ElementPattern,
                 TokenKind::Comma,
                 TokenKind::RBracket,
-            )?
+            )
         } else {
             self.grammar.list(
                 tokens,
                 Rule::PropertyPattern,
                 TokenKind::Comma,
                 TokenKind::RBrace,
-            )?
+            )
         };
         let mut span = tokens.at.from(start);
         let optional = annotated && tokens.at.eat(TokenKind::Question);
         let type_ann = if annotated {
-            self.annotation(tokens)?
+            self.annotation(tokens)
         } else {
             Tree::Absent
         };
@@ -197,22 +188,22 @@ impl<F: Fn(Global, &mut Tokens<'_>, usize, Rule) -> Result<Tree, ParseError>> Ty
             }
             .into_tree(self.grammar.alloc)
         };
-        parsed(made)
+        tokens.made(made)
     }
 
     /// An element of an array pattern, which may be missing.
-    pub fn element_pattern(&self, tokens: &mut Tokens<'_>) -> Result<Tree, ParseError>
+    pub fn element_pattern(&self, tokens: &mut Tokens<'_>) -> Tree
         requires { Nests self.now.grammar.depth (F.pre self.now.grammar.parse) }
     {
         match tokens.at.kind() {
-            TokenKind::Comma => Ok(Tree::Absent),
+            TokenKind::Comma => Tree::Absent,
             TokenKind::Dots => self.rest(tokens, false),
             _ => self.pattern(tokens),
         }
     }
 
     /// `a`, `a = b`, `a: b` or `...a` in an object pattern.
-    pub fn property_pattern(&self, tokens: &mut Tokens<'_>) -> Result<Tree, ParseError>
+    pub fn property_pattern(&self, tokens: &mut Tokens<'_>) -> Tree
         requires { Nests self.now.grammar.depth (F.pre self.now.grammar.parse) }
     {
         if tokens.at.is(TokenKind::Dots) {
@@ -221,28 +212,28 @@ impl<F: Fn(Global, &mut Tokens<'_>, usize, Rule) -> Result<Tree, ParseError>> Ty
         if tokens.at.is(TokenKind::Name) && !tokens.at.second().is(TokenKind::Colon) {
             return self.short_property(tokens);
         }
-        let key = self.prop_name(tokens)?;
-        tokens.at.expect(TokenKind::Colon)?;
-        let value = self.pattern(tokens)?;
-        parsed(KeyValuePatProp { key, value }.into_tree(self.grammar.alloc))
+        let key = self.prop_name(tokens);
+        tokens.expect(TokenKind::Colon);
+        let value = self.pattern(tokens);
+        tokens.made(KeyValuePatProp { key, value }.into_tree(self.grammar.alloc))
     }
 
-    fn short_property(&self, tokens: &mut Tokens<'_>) -> Result<Tree, ParseError>
+    fn short_property(&self, tokens: &mut Tokens<'_>) -> Tree
         requires { Nests self.now.grammar.depth (F.pre self.now.grammar.parse) }
     {
         let start = tokens.at.start();
-        let key = binding(self.grammar.alloc, tokens)?;
+        let key = binding(self.grammar.alloc, tokens);
         let value = if tokens.at.eat(TokenKind::Assign) {
-            self.grammar.again(tokens, Rule::Assigned)?
+            self.grammar.again(tokens, Rule::Assigned)
         } else {
             Tree::Absent
         };
         let span = tokens.at.from(start);
-        parsed(AssignPatProp { span, key, value }.into_tree(self.grammar.alloc))
+        tokens.made(AssignPatProp { span, key, value }.into_tree(self.grammar.alloc))
     }
 
     /// The key of a property: a word, a string, a number or an expression in brackets.
-    pub fn prop_name(&self, tokens: &mut Tokens<'_>) -> Result<Tree, ParseError>
+    pub fn prop_name(&self, tokens: &mut Tokens<'_>) -> Tree
         requires { Nests self.now.grammar.depth (F.pre self.now.grammar.parse) }
     {
         match tokens.at.kind() {
@@ -253,14 +244,14 @@ impl<F: Fn(Global, &mut Tokens<'_>, usize, Rule) -> Result<Tree, ParseError>> Ty
         }
     }
 
-    fn computed_name(&self, tokens: &mut Tokens<'_>) -> Result<Tree, ParseError>
+    fn computed_name(&self, tokens: &mut Tokens<'_>) -> Tree
         requires { Nests self.now.grammar.depth (F.pre self.now.grammar.parse) }
     {
         let start = tokens.at.start();
         tokens.at.advance();
-        let expr = self.grammar.again(tokens, Rule::Expression)?;
-        tokens.at.expect(TokenKind::RBracket)?;
+        let expr = self.grammar.again(tokens, Rule::Expression);
+        tokens.expect(TokenKind::RBracket);
         let span = tokens.at.from(start);
-        parsed(ComputedPropName { span, expr }.into_tree(self.grammar.alloc))
+        tokens.made(ComputedPropName { span, expr }.into_tree(self.grammar.alloc))
     }
 }

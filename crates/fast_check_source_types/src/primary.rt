@@ -4,7 +4,7 @@ ghost use Rattle.fast_check_source_grammar.specs.Nests.{Nests};
 use crate::look_ahead::{is_before_is, sees_assertion, sees_label, sees_mapped};
 use crate::types::Types;
 use fast_check_source_grammar::{
-    ParseError, Rule, Tokens, bool_literal, entity, parsed, quasi, signed_number, string,
+    Rule, Tokens, Trees, bool_literal, entity, quasi, signed_number, string, word,
 };
 use fast_check_source_lexer::{Keyword, TokenKind};
 use fast_check_tree_forms_expressions::RestPat;
@@ -13,7 +13,7 @@ use fast_check_tree_forms_types::{
     TsImportType, TsKeywordType, TsLitType, TsOptionalType, TsParenthesizedType, TsRestType,
     TsThisType, TsTplLitType, TsTupleElement, TsTupleType, TsTypeLit, TsTypeQuery, TsTypeRef,
 };
-use fast_check_tree_syntax::{Items, SourcePos, SourceRange, SyntaxContext, Tree, Word as Form};
+use fast_check_tree_syntax::{SourcePos, SourceRange, SyntaxContext, Tree, Word as Form};
 use std::alloc::Global;
 
 fn keyword(word: Keyword) -> Option<Form> {
@@ -34,11 +34,11 @@ fn keyword(word: Keyword) -> Option<Form> {
     }
 }
 
-fn keyword_type(alloc: Global, tokens: &mut Tokens<'_>, form: Form) -> Result<Tree, ParseError> {
+fn keyword_type(alloc: Global, tokens: &mut Tokens<'_>, form: Form) -> Tree {
     let span = tokens.at.here();
     tokens.at.advance();
     let kind = Tree::Word(form);
-    parsed(TsKeywordType { span, kind }.into_tree(alloc))
+    tokens.made(TsKeywordType { span, kind }.into_tree(alloc))
 }
 
 // The label of an element of a tuple: `a`, `a?` or `...a`.
@@ -47,10 +47,11 @@ fn label(
     tokens: &mut Tokens<'_>,
     start: SourcePos,
     dots: Option<SourceRange>,
-) -> Result<Tree, ParseError> {
+) -> Tree {
     let at = tokens.at.start();
-    let sym = tokens.name(alloc, 0)?;
-    tokens.at.expect(TokenKind::Name)?;
+    let Some(sym) = word(alloc, tokens) else {
+        return Tree::Absent;
+    };
     let optional = tokens.at.eat(TokenKind::Question);
     let id = Ident {
         span: tokens.at.from(at),
@@ -59,12 +60,12 @@ fn label(
         optional,
     };
     let name = BindingIdent {
-        id: id.into_tree(alloc)?,
+        id: tokens.made(id.into_tree(alloc)),
         type_ann: Tree::Absent,
     };
-    let arg = name.into_tree(alloc)?;
+    let arg = tokens.made(name.into_tree(alloc));
     let Some(dot3_token) = dots else {
-        return Ok(arg);
+        return arg;
     };
     let made = RestPat {
         span: tokens.at.from(start),
@@ -72,11 +73,11 @@ fn label(
         arg,
         type_ann: Tree::Absent,
     };
-    parsed(made.into_tree(alloc))
+    tokens.made(made.into_tree(alloc))
 }
 
-impl<F: Fn(Global, &mut Tokens<'_>, usize, Rule) -> Result<Tree, ParseError>> Types<F> {
-    pub fn primary(&self, tokens: &mut Tokens<'_>) -> Result<Tree, ParseError>
+impl<F: Fn(Global, &mut Tokens<'_>, usize, Rule) -> Tree> Types<F> {
+    pub fn primary(&self, tokens: &mut Tokens<'_>) -> Tree
         requires { Nests self.now.grammar.depth (F.pre self.now.grammar.parse) }
     {
         match tokens.at.kind() {
@@ -88,42 +89,42 @@ impl<F: Fn(Global, &mut Tokens<'_>, usize, Rule) -> Result<Tree, ParseError>> Ty
             TokenKind::Template | TokenKind::TemplateHead => self.template(tokens),
             TokenKind::LBrace if sees_mapped(tokens) => self.mapped(tokens),
             TokenKind::LBrace => self.type_literal(tokens),
-            _ => Err(tokens.at.refuse()),
+            _ => tokens.refuse(),
         }
     }
 
-    fn literal(&self, tokens: &mut Tokens<'_>) -> Result<Tree, ParseError> {
+    fn literal(&self, tokens: &mut Tokens<'_>) -> Tree {
         let start = tokens.at.start();
         let lit = match tokens.at.kind() {
-            TokenKind::String => string(self.grammar.alloc, tokens)?,
-            TokenKind::Name => bool_literal(self.grammar.alloc, tokens)?,
-            _ => signed_number(self.grammar.alloc, tokens)?,
+            TokenKind::String => string(self.grammar.alloc, tokens),
+            TokenKind::Name => bool_literal(self.grammar.alloc, tokens),
+            _ => signed_number(self.grammar.alloc, tokens),
         };
         let span = tokens.at.from(start);
-        parsed(TsLitType { span, lit }.into_tree(self.grammar.alloc))
+        tokens.made(TsLitType { span, lit }.into_tree(self.grammar.alloc))
     }
 
-    fn parenthesized(&self, tokens: &mut Tokens<'_>) -> Result<Tree, ParseError>
+    fn parenthesized(&self, tokens: &mut Tokens<'_>) -> Tree
         requires { Nests self.now.grammar.depth (F.pre self.now.grammar.parse) }
     {
         let start = tokens.at.start();
         tokens.at.advance();
-        let type_ann = self.grammar.again(tokens, Rule::Type)?;
-        tokens.at.expect(TokenKind::RParen)?;
+        let type_ann = self.grammar.again(tokens, Rule::Type);
+        tokens.expect(TokenKind::RParen);
         let span = tokens.at.from(start);
-        parsed(TsParenthesizedType { span, type_ann }.into_tree(self.grammar.alloc))
+        tokens.made(TsParenthesizedType { span, type_ann }.into_tree(self.grammar.alloc))
     }
 
-    fn type_literal(&self, tokens: &mut Tokens<'_>) -> Result<Tree, ParseError>
+    fn type_literal(&self, tokens: &mut Tokens<'_>) -> Tree
         requires { Nests self.now.grammar.depth (F.pre self.now.grammar.parse) }
     {
         let start = tokens.at.start();
-        let members = self.members(tokens)?;
+        let members = self.members(tokens);
         let span = tokens.at.from(start);
-        parsed(TsTypeLit { span, members }.into_tree(self.grammar.alloc))
+        tokens.made(TsTypeLit { span, members }.into_tree(self.grammar.alloc))
     }
 
-    fn tuple(&self, tokens: &mut Tokens<'_>) -> Result<Tree, ParseError>
+    fn tuple(&self, tokens: &mut Tokens<'_>) -> Tree
         requires { Nests self.now.grammar.depth (F.pre self.now.grammar.parse) }
     {
         let start = tokens.at.start();
@@ -133,13 +134,13 @@ impl<F: Fn(Global, &mut Tokens<'_>, usize, Rule) -> Result<Tree, ParseError>> Ty
             Rule::Element,
             TokenKind::Comma,
             TokenKind::RBracket,
-        )?;
+        );
         let span = tokens.at.from(start);
-        parsed(TsTupleType { span, elem_types }.into_tree(self.grammar.alloc))
+        tokens.made(TsTupleType { span, elem_types }.into_tree(self.grammar.alloc))
     }
 
     /// An element of a tuple, with its label.
-    pub fn element(&self, tokens: &mut Tokens<'_>) -> Result<Tree, ParseError>
+    pub fn element(&self, tokens: &mut Tokens<'_>) -> Tree
         requires { Nests self.now.grammar.depth (F.pre self.now.grammar.parse) }
     {
         let start = tokens.at.start();
@@ -147,29 +148,24 @@ impl<F: Fn(Global, &mut Tokens<'_>, usize, Rule) -> Result<Tree, ParseError>> Ty
         if sees_label(tokens) {
             return self.labelled(tokens, start, is_rest);
         }
-        let mut ty = self.grammar.again(tokens, Rule::Type)?;
+        let mut ty = self.grammar.again(tokens, Rule::Type);
         if is_rest {
             let span = tokens.at.from(start);
-            ty = TsRestType { span, type_ann: ty }.into_tree(self.grammar.alloc)?;
+            ty = tokens.made(TsRestType { span, type_ann: ty }.into_tree(self.grammar.alloc));
         } else if tokens.at.eat(TokenKind::Question) {
             let span = tokens.at.from(start);
-            ty = TsOptionalType { span, type_ann: ty }.into_tree(self.grammar.alloc)?;
+            ty = tokens.made(TsOptionalType { span, type_ann: ty }.into_tree(self.grammar.alloc));
         }
         let made = TsTupleElement {
             span: tokens.at.from(start),
             label: Tree::Absent,
             ty,
         };
-        parsed(made.into_tree(self.grammar.alloc))
+        tokens.made(made.into_tree(self.grammar.alloc))
     }
 
     // `a: A`, `a?: A` or `...a: A`
-    fn labelled(
-        &self,
-        tokens: &mut Tokens<'_>,
-        start: SourcePos,
-        is_rest: bool,
-    ) -> Result<Tree, ParseError>
+    fn labelled(&self, tokens: &mut Tokens<'_>, start: SourcePos, is_rest: bool) -> Tree
         requires { Nests self.now.grammar.depth (F.pre self.now.grammar.parse) }
     {
         let dots = if is_rest {
@@ -177,68 +173,61 @@ impl<F: Fn(Global, &mut Tokens<'_>, usize, Rule) -> Result<Tree, ParseError>> Ty
         } else {
             None
         };
-        let label = label(self.grammar.alloc, tokens, start, dots)?;
-        tokens.at.expect(TokenKind::Colon)?;
+        let label = label(self.grammar.alloc, tokens, start, dots);
+        tokens.expect(TokenKind::Colon);
         let made = TsTupleElement {
             label,
-            ty: self.grammar.again(tokens, Rule::Type)?,
+            ty: self.grammar.again(tokens, Rule::Type),
             span: tokens.at.from(start),
         };
-        parsed(made.into_tree(self.grammar.alloc))
+        tokens.made(made.into_tree(self.grammar.alloc))
     }
 
-    fn template(&self, tokens: &mut Tokens<'_>) -> Result<Tree, ParseError>
+    fn template(&self, tokens: &mut Tokens<'_>) -> Tree
         requires { Nests self.now.grammar.depth (F.pre self.now.grammar.parse) }
     {
         let start = tokens.at.start();
-        let (types, quasis) = self.template_parts(tokens, Rule::Type)?;
+        let (types, quasis) = self.template_parts(tokens, Rule::Type);
         let span = tokens.at.from(start);
         let lit = TsTplLitType {
             span,
             types,
             quasis,
         };
-        let lit = lit.into_tree(self.grammar.alloc)?;
-        parsed(TsLitType { span, lit }.into_tree(self.grammar.alloc))
+        let lit = tokens.made(lit.into_tree(self.grammar.alloc));
+        tokens.made(TsLitType { span, lit }.into_tree(self.grammar.alloc))
     }
 
     /// The parts of a template by a rule, and the texts around them.
-    pub fn template_parts(
-        &self,
-        tokens: &mut Tokens<'_>,
-        rule: Rule,
-    ) -> Result<(Tree, Tree), ParseError>
+    pub fn template_parts(&self, tokens: &mut Tokens<'_>, rule: Rule) -> (Tree, Tree)
         requires { Nests self.now.grammar.depth (F.pre self.now.grammar.parse) }
     {
-        let mut parts = Items::new(self.grammar.alloc);
-        let mut quasis = Items::new(self.grammar.alloc);
+        let mut parts = Trees::new(self.grammar.alloc);
+        let mut quasis = Trees::new(self.grammar.alloc);
         let mut goes_on = tokens.at.is(TokenKind::TemplateHead);
-        quasis.push(quasi(self.grammar.alloc, tokens)?)?;
-        tokens.at.advance();
+        quasis.push(quasi(self.grammar.alloc, tokens));
         for _turn in 0..tokens.at.left() {
             if !goes_on {
                 break;
             }
-            parts.push(self.grammar.again(tokens, rule)?)?;
-            if !tokens.at.is(TokenKind::RBrace) {
-                return Err(tokens.at.refuse());
+            parts.push(self.grammar.again(tokens, rule));
+            if tokens.at.is(TokenKind::RBrace) {
+                tokens.at.rescan_template();
             }
-            tokens.at.rescan_template();
-            goes_on = tokens.at.is(TokenKind::TemplateMiddle);
-            if !goes_on && !tokens.at.is(TokenKind::TemplateTail) {
-                return Err(tokens.at.refuse());
+            goes_on = !tokens.at.is(TokenKind::TemplateTail);
+            if goes_on && !tokens.at.is(TokenKind::TemplateMiddle) {
+                break;
             }
-            quasis.push(quasi(self.grammar.alloc, tokens)?)?;
-            tokens.at.advance();
+            quasis.push(quasi(self.grammar.alloc, tokens));
         }
-        // The text ends within the template.
+        // What goes on with the template is missing.
         if goes_on {
-            return Err(tokens.at.refuse());
+            let _ = tokens.refuse();
         }
-        Ok((Tree::list(parts), Tree::list(quasis)))
+        (tokens.list(parts), tokens.list(quasis))
     }
 
-    fn named(&self, tokens: &mut Tokens<'_>) -> Result<Tree, ParseError>
+    fn named(&self, tokens: &mut Tokens<'_>) -> Tree
         requires { Nests self.now.grammar.depth (F.pre self.now.grammar.parse) }
     {
         let word = tokens.at.word();
@@ -256,7 +245,7 @@ impl<F: Fn(Global, &mut Tokens<'_>, usize, Rule) -> Result<Tree, ParseError>> Ty
                 let made = TsThisType {
                     span: tokens.at.from(start),
                 };
-                parsed(made.into_tree(self.grammar.alloc))
+                tokens.made(made.into_tree(self.grammar.alloc))
             }
             Keyword::Typeof => self.query(tokens),
             Keyword::Import => self.import_type(tokens),
@@ -269,7 +258,7 @@ impl<F: Fn(Global, &mut Tokens<'_>, usize, Rule) -> Result<Tree, ParseError>> Ty
     }
 
     /// `intrinsic` where it is all that an alias stands for, or a type.
-    pub fn aliased(&self, tokens: &mut Tokens<'_>) -> Result<Tree, ParseError>
+    pub fn aliased(&self, tokens: &mut Tokens<'_>) -> Tree
         requires { Nests self.now.grammar.depth (F.pre self.now.grammar.parse) }
     {
         if tokens.at.is_word(Keyword::Intrinsic) && !tokens.at.second().is(TokenKind::Dot) {
@@ -279,73 +268,73 @@ impl<F: Fn(Global, &mut Tokens<'_>, usize, Rule) -> Result<Tree, ParseError>> Ty
     }
 
     // Type arguments in the line of what they stand behind, or nothing.
-    fn args_in_line(&self, tokens: &mut Tokens<'_>) -> Result<Tree, ParseError>
+    fn args_in_line(&self, tokens: &mut Tokens<'_>) -> Tree
         requires { Nests self.now.grammar.depth (F.pre self.now.grammar.parse) }
     {
         if tokens.at.newline() {
-            Ok(Tree::Absent)
+            Tree::Absent
         } else {
             self.type_args(tokens)
         }
     }
 
     // `import("a").b<c>`
-    fn import_type(&self, tokens: &mut Tokens<'_>) -> Result<Tree, ParseError>
+    fn import_type(&self, tokens: &mut Tokens<'_>) -> Tree
         requires { Nests self.now.grammar.depth (F.pre self.now.grammar.parse) }
     {
         let start = tokens.at.start();
         tokens.at.advance();
-        tokens.at.expect(TokenKind::LParen)?;
-        let arg = string(self.grammar.alloc, tokens)?;
-        tokens.at.expect(TokenKind::RParen)?;
+        tokens.expect(TokenKind::LParen);
+        let arg = string(self.grammar.alloc, tokens);
+        tokens.expect(TokenKind::RParen);
         let qualifier = if tokens.at.eat(TokenKind::Dot) {
-            entity(self.grammar.alloc, tokens)?
+            entity(self.grammar.alloc, tokens)
         } else {
             Tree::Absent
         };
         let made = TsImportType {
             arg,
             qualifier,
-            type_args: self.args_in_line(tokens)?,
+            type_args: self.args_in_line(tokens),
             span: tokens.at.from(start),
         };
-        parsed(made.into_tree(self.grammar.alloc))
+        tokens.made(made.into_tree(self.grammar.alloc))
     }
 
     // `typeof a.b<c>` or `typeof import("a")`
-    fn query(&self, tokens: &mut Tokens<'_>) -> Result<Tree, ParseError>
+    fn query(&self, tokens: &mut Tokens<'_>) -> Tree
         requires { Nests self.now.grammar.depth (F.pre self.now.grammar.parse) }
     {
         let start = tokens.at.start();
         tokens.at.advance();
         let is_import = tokens.at.is_word(Keyword::Import);
         let expr_name = if is_import {
-            self.import_type(tokens)?
+            self.import_type(tokens)
         } else {
-            entity(self.grammar.alloc, tokens)?
+            entity(self.grammar.alloc, tokens)
         };
         let type_args = if is_import {
             Tree::Absent
         } else {
-            self.args_in_line(tokens)?
+            self.args_in_line(tokens)
         };
         let made = TsTypeQuery {
             span: tokens.at.from(start),
             expr_name,
             type_args,
         };
-        parsed(made.into_tree(self.grammar.alloc))
+        tokens.made(made.into_tree(self.grammar.alloc))
     }
 
-    fn reference(&self, tokens: &mut Tokens<'_>) -> Result<Tree, ParseError>
+    fn reference(&self, tokens: &mut Tokens<'_>) -> Tree
         requires { Nests self.now.grammar.depth (F.pre self.now.grammar.parse) }
     {
         let start = tokens.at.start();
         let made = TsTypeRef {
-            type_name: entity(self.grammar.alloc, tokens)?,
-            type_params: self.args_in_line(tokens)?,
+            type_name: entity(self.grammar.alloc, tokens),
+            type_params: self.args_in_line(tokens),
             span: tokens.at.from(start),
         };
-        parsed(made.into_tree(self.grammar.alloc))
+        tokens.made(made.into_tree(self.grammar.alloc))
     }
 }

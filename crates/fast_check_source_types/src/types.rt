@@ -2,13 +2,13 @@
 ghost use Rattle.fast_check_source_grammar.specs.Nests.{Nests};
 
 use crate::look_ahead::sees_function;
-use fast_check_source_grammar::{Grammar, Note, ParseError, Rule, Tokens, Within, ident, parsed};
+use fast_check_source_grammar::{Grammar, Note, Rule, Tokens, Trees, Within, ident};
 use fast_check_source_lexer::{Keyword, TokenKind};
 use fast_check_tree_forms_types::{
     TsArrayType, TsConditionalType, TsConstructorType, TsFnType, TsIndexedAccessType, TsInferType,
     TsIntersectionType, TsTypeOperator, TsTypeParam, TsUnionType,
 };
-use fast_check_tree_syntax::{Items, SourcePos, Tree, Word as Form};
+use fast_check_tree_syntax::{SourcePos, Tree, Word as Form};
 use std::alloc::Global;
 
 /// The rules of types.
@@ -37,41 +37,36 @@ pub(crate) fn set_plain(tokens: &mut Tokens<'_>, plain: bool) -> bool {
     outer
 }
 
-impl<F: Fn(Global, &mut Tokens<'_>, usize, Rule) -> Result<Tree, ParseError>> Types<F> {
+impl<F: Fn(Global, &mut Tokens<'_>, usize, Rule) -> Tree> Types<F> {
     /// A type.
-    pub fn any_type(&self, tokens: &mut Tokens<'_>) -> Result<Tree, ParseError>
+    pub fn any_type(&self, tokens: &mut Tokens<'_>) -> Tree
         requires { Nests self.now.grammar.depth (F.pre self.now.grammar.parse) }
     {
         if sees_function(tokens) {
             return self.function_type(tokens);
         }
         let start = tokens.at.start();
-        let check_type = self.union(tokens)?;
+        let check_type = self.union(tokens);
         if tokens.at.within().plain_type
             || tokens.at.newline()
             || !tokens.at.eat_word(Keyword::Extends)
         {
-            return Ok(check_type);
+            return check_type;
         }
         self.conditional(tokens, start, check_type)
     }
 
     // `A extends B ? C : D`, from behind `extends` on.
-    fn conditional(
-        &self,
-        tokens: &mut Tokens<'_>,
-        start: SourcePos,
-        check_type: Tree,
-    ) -> Result<Tree, ParseError>
+    fn conditional(&self, tokens: &mut Tokens<'_>, start: SourcePos, check_type: Tree) -> Tree
         requires { Nests self.now.grammar.depth (F.pre self.now.grammar.parse) }
     {
         let outer = set_plain(tokens, true);
-        let extends_type = self.grammar.again(tokens, Rule::Type)?;
+        let extends_type = self.grammar.again(tokens, Rule::Type);
         let _ = set_plain(tokens, false);
-        tokens.at.expect(TokenKind::Question)?;
-        let true_type = self.grammar.again(tokens, Rule::Type)?;
-        tokens.at.expect(TokenKind::Colon)?;
-        let false_type = self.grammar.again(tokens, Rule::Type)?;
+        tokens.expect(TokenKind::Question);
+        let true_type = self.grammar.again(tokens, Rule::Type);
+        tokens.expect(TokenKind::Colon);
+        let false_type = self.grammar.again(tokens, Rule::Type);
         let _ = set_plain(tokens, outer);
         let made = TsConditionalType {
             span: tokens.at.from(start),
@@ -80,21 +75,21 @@ impl<F: Fn(Global, &mut Tokens<'_>, usize, Rule) -> Result<Tree, ParseError>> Ty
             true_type,
             false_type,
         };
-        parsed(made.into_tree(self.grammar.alloc))
+        tokens.made(made.into_tree(self.grammar.alloc))
     }
 
     // `(a: A) => B` or `new (a: A) => B`
-    fn function_type(&self, tokens: &mut Tokens<'_>) -> Result<Tree, ParseError>
+    fn function_type(&self, tokens: &mut Tokens<'_>) -> Tree
         requires { Nests self.now.grammar.depth (F.pre self.now.grammar.parse) }
     {
         let start = tokens.at.start();
         let is_abstract = tokens.at.eat_word(Keyword::Abstract);
         let is_new = tokens.at.eat_word(Keyword::New);
-        let type_params = self.type_params(tokens)?;
-        let params = self.params(tokens)?;
+        let type_params = self.type_params(tokens);
+        let params = self.params(tokens);
         let at = tokens.at.start();
-        tokens.at.expect(TokenKind::Arrow)?;
-        let type_ann = self.result_from(tokens, at)?;
+        tokens.expect(TokenKind::Arrow);
+        let type_ann = self.result_from(tokens, at);
         let span = tokens.at.from(start);
         let made = if is_new {
             TsConstructorType {
@@ -115,59 +110,59 @@ impl<F: Fn(Global, &mut Tokens<'_>, usize, Rule) -> Result<Tree, ParseError>> Ty
             }
             .into_tree(self.grammar.alloc)
         };
-        parsed(made)
+        tokens.made(made)
     }
 
-    fn union(&self, tokens: &mut Tokens<'_>) -> Result<Tree, ParseError>
+    fn union(&self, tokens: &mut Tokens<'_>) -> Tree
         requires { Nests self.now.grammar.depth (F.pre self.now.grammar.parse) }
     {
         let start = tokens.at.start();
         let _ = tokens.at.eat(TokenKind::Or);
-        let first = self.intersection(tokens)?;
+        let first = self.intersection(tokens);
         if !tokens.at.is(TokenKind::Or) {
-            return Ok(first);
+            return first;
         }
-        let mut types = Items::new(self.grammar.alloc);
-        types.push(first)?;
+        let mut types = Trees::new(self.grammar.alloc);
+        types.push(first);
         for _turn in 0..tokens.at.left() {
             if !tokens.at.eat(TokenKind::Or) {
                 break;
             }
-            types.push(self.intersection(tokens)?)?;
+            types.push(self.intersection(tokens));
         }
         let made = TsUnionType {
             span: tokens.at.from(start),
-            types: Tree::list(types),
+            types: tokens.list(types),
         };
-        parsed(made.into_tree(self.grammar.alloc))
+        tokens.made(made.into_tree(self.grammar.alloc))
     }
 
-    fn intersection(&self, tokens: &mut Tokens<'_>) -> Result<Tree, ParseError>
+    fn intersection(&self, tokens: &mut Tokens<'_>) -> Tree
         requires { Nests self.now.grammar.depth (F.pre self.now.grammar.parse) }
     {
         let start = tokens.at.start();
         let _ = tokens.at.eat(TokenKind::And);
-        let first = self.operated(tokens)?;
+        let first = self.operated(tokens);
         if !tokens.at.is(TokenKind::And) {
-            return Ok(first);
+            return first;
         }
-        let mut types = Items::new(self.grammar.alloc);
-        types.push(first)?;
+        let mut types = Trees::new(self.grammar.alloc);
+        types.push(first);
         for _turn in 0..tokens.at.left() {
             if !tokens.at.eat(TokenKind::And) {
                 break;
             }
-            types.push(self.operated(tokens)?)?;
+            types.push(self.operated(tokens));
         }
         let made = TsIntersectionType {
             span: tokens.at.from(start),
-            types: Tree::list(types),
+            types: tokens.list(types),
         };
-        parsed(made.into_tree(self.grammar.alloc))
+        tokens.made(made.into_tree(self.grammar.alloc))
     }
 
     /// `keyof A`, `infer A`, or a type with brackets behind it.
-    pub fn operated(&self, tokens: &mut Tokens<'_>) -> Result<Tree, ParseError>
+    pub fn operated(&self, tokens: &mut Tokens<'_>) -> Tree
         requires { Nests self.now.grammar.depth (F.pre self.now.grammar.parse) }
     {
         let start = tokens.at.start();
@@ -175,29 +170,29 @@ impl<F: Fn(Global, &mut Tokens<'_>, usize, Rule) -> Result<Tree, ParseError>> Ty
             tokens.at.advance();
             let made = TsTypeOperator {
                 op: Tree::Word(form),
-                type_ann: self.grammar.again(tokens, Rule::Operated)?,
+                type_ann: self.grammar.again(tokens, Rule::Operated),
                 span: tokens.at.from(start),
             };
-            return parsed(made.into_tree(self.grammar.alloc));
+            return tokens.made(made.into_tree(self.grammar.alloc));
         }
         if tokens.at.is_word(Keyword::Infer) {
             return self.inferred(tokens);
         }
         let outer = set_plain(tokens, false);
-        let made = self.postfix(tokens)?;
+        let made = self.postfix(tokens);
         let _ = set_plain(tokens, outer);
-        Ok(made)
+        made
     }
 
     // `infer A` or `infer A extends B`
-    fn inferred(&self, tokens: &mut Tokens<'_>) -> Result<Tree, ParseError>
+    fn inferred(&self, tokens: &mut Tokens<'_>) -> Tree
         requires { Nests self.now.grammar.depth (F.pre self.now.grammar.parse) }
     {
         let start = tokens.at.start();
         tokens.at.advance();
         let at = tokens.at.start();
-        let name = ident(self.grammar.alloc, tokens)?;
-        let constraint = self.inferred_constraint(tokens)?;
+        let name = ident(self.grammar.alloc, tokens);
+        let constraint = self.inferred_constraint(tokens);
         let param = TsTypeParam {
             span: tokens.at.from(at),
             name,
@@ -208,56 +203,48 @@ impl<F: Fn(Global, &mut Tokens<'_>, usize, Rule) -> Result<Tree, ParseError>> Ty
             default: Tree::Absent,
         };
         let made = TsInferType {
-            type_param: param.into_tree(self.grammar.alloc)?,
+            type_param: tokens.made(param.into_tree(self.grammar.alloc)),
             span: tokens.at.from(start),
         };
-        parsed(made.into_tree(self.grammar.alloc))
+        tokens.made(made.into_tree(self.grammar.alloc))
     }
 
     // `extends B` behind `infer A`, unless a `?` behind it makes it a part of a conditional type.
-    fn inferred_constraint(&self, tokens: &mut Tokens<'_>) -> Result<Tree, ParseError>
+    fn inferred_constraint(&self, tokens: &mut Tokens<'_>) -> Tree
         requires { Nests self.now.grammar.depth (F.pre self.now.grammar.parse) }
     {
-        let saved = tokens.at;
+        let saved = tokens.save();
         if tokens.is_noted(Note::NoConstraint) || !tokens.at.eat_word(Keyword::Extends) {
-            return Ok(Tree::Absent);
+            return Tree::Absent;
         }
         let outer = set_plain(tokens, true);
-        let found = self.grammar.again(tokens, Rule::Type);
+        let constraint = self.grammar.again(tokens, Rule::Type);
         let _ = set_plain(tokens, outer);
-        match found {
-            Ok(constraint) if outer || !tokens.at.is(TokenKind::Question) => Ok(constraint),
-            Err(ParseError::Memory) => Err(ParseError::Memory),
-            _ => {
-                tokens.note(Note::NoConstraint, saved.place())?;
-                tokens.at = saved;
-                Ok(Tree::Absent)
-            }
+        if !tokens.is_stopped() && (outer || !tokens.at.is(TokenKind::Question)) {
+            return constraint;
         }
+        tokens.note(Note::NoConstraint, saved.at.place());
+        tokens.go_back(saved);
+        Tree::Absent
     }
 
     // `A[]`, `A[B]`
-    fn postfix(&self, tokens: &mut Tokens<'_>) -> Result<Tree, ParseError>
+    fn postfix(&self, tokens: &mut Tokens<'_>) -> Tree
         requires { Nests self.now.grammar.depth (F.pre self.now.grammar.parse) }
     {
         let start = tokens.at.start();
-        let mut found = self.primary(tokens)?;
+        let mut found = self.primary(tokens);
         for _turn in 0..tokens.at.left() {
             if tokens.at.newline() || !tokens.at.eat(TokenKind::LBracket) {
                 break;
             }
-            tokens.link()?;
-            found = self.bracketed(tokens, start, found)?;
+            tokens.link();
+            found = self.bracketed(tokens, start, found);
         }
-        Ok(found)
+        found
     }
 
-    fn bracketed(
-        &self,
-        tokens: &mut Tokens<'_>,
-        start: SourcePos,
-        found: Tree,
-    ) -> Result<Tree, ParseError>
+    fn bracketed(&self, tokens: &mut Tokens<'_>, start: SourcePos, found: Tree) -> Tree
         requires { Nests self.now.grammar.depth (F.pre self.now.grammar.parse) }
     {
         if tokens.at.eat(TokenKind::RBracket) {
@@ -265,16 +252,16 @@ impl<F: Fn(Global, &mut Tokens<'_>, usize, Rule) -> Result<Tree, ParseError>> Ty
                 span: tokens.at.from(start),
                 elem_type: found,
             };
-            return parsed(made.into_tree(self.grammar.alloc));
+            return tokens.made(made.into_tree(self.grammar.alloc));
         }
-        let index_type = self.grammar.again(tokens, Rule::Type)?;
-        tokens.at.expect(TokenKind::RBracket)?;
+        let index_type = self.grammar.again(tokens, Rule::Type);
+        tokens.expect(TokenKind::RBracket);
         let made = TsIndexedAccessType {
             span: tokens.at.from(start),
             readonly: false,
             obj_type: found,
             index_type,
         };
-        parsed(made.into_tree(self.grammar.alloc))
+        tokens.made(made.into_tree(self.grammar.alloc))
     }
 }

@@ -4,7 +4,7 @@ ghost use Rattle.fast_check_source_grammar.specs.Nests.{Nests};
 use crate::functions::{Marks, enter_function};
 use crate::look_ahead::leads;
 use crate::values::Values;
-use fast_check_source_grammar::{Cursor, ParseError, Rule, Tokens, ident, parsed, sees_ident};
+use fast_check_source_grammar::{Cursor, Rule, Tokens, ident, sees_ident};
 use fast_check_source_lexer::{Keyword, TokenKind};
 use fast_check_tree_forms_expressions::{
     AssignProp, GetterProp, KeyValueProp, MethodProp, ObjectLit, SetterProp, SpreadElement,
@@ -38,9 +38,9 @@ fn is_accessor(at: Cursor<'_>) -> bool {
     leads(next) && !next.is(TokenKind::Star)
 }
 
-impl<F: Fn(Global, &mut Tokens<'_>, usize, Rule) -> Result<Tree, ParseError>> Values<F> {
+impl<F: Fn(Global, &mut Tokens<'_>, usize, Rule) -> Tree> Values<F> {
     /// `{ a, b: c, d() {} }`
-    pub fn object(&self, tokens: &mut Tokens<'_>) -> Result<Tree, ParseError>
+    pub fn object(&self, tokens: &mut Tokens<'_>) -> Tree
         requires { Nests self.now.types.grammar.depth (F.pre self.now.types.grammar.parse) }
     {
         let start = tokens.at.start();
@@ -50,13 +50,13 @@ impl<F: Fn(Global, &mut Tokens<'_>, usize, Rule) -> Result<Tree, ParseError>> Va
             Rule::Property,
             TokenKind::Comma,
             TokenKind::RBrace,
-        )?;
+        );
         let span = tokens.at.from(start);
-        parsed(ObjectLit { span, props }.into_tree(self.types.grammar.alloc))
+        tokens.made(ObjectLit { span, props }.into_tree(self.types.grammar.alloc))
     }
 
     /// A property of an object literal.
-    pub fn property(&self, tokens: &mut Tokens<'_>) -> Result<Tree, ParseError>
+    pub fn property(&self, tokens: &mut Tokens<'_>) -> Tree
         requires { Nests self.now.types.grammar.depth (F.pre self.now.types.grammar.parse) }
     {
         if tokens.at.is(TokenKind::Dots) {
@@ -78,80 +78,74 @@ impl<F: Fn(Global, &mut Tokens<'_>, usize, Rule) -> Result<Tree, ParseError>> Va
             is_async,
             is_generator,
         };
-        let key = self.types.prop_name(tokens)?;
+        let key = self.types.prop_name(tokens);
         self.keyed(tokens, start, marks, key)
     }
 
-    fn spread(&self, tokens: &mut Tokens<'_>) -> Result<Tree, ParseError>
+    fn spread(&self, tokens: &mut Tokens<'_>) -> Tree
         requires { Nests self.now.types.grammar.depth (F.pre self.now.types.grammar.parse) }
     {
         let dot3_token = tokens.at.here();
         tokens.at.advance();
-        let expr = self.types.grammar.again(tokens, Rule::Assigned)?;
-        parsed(SpreadElement { dot3_token, expr }.into_tree(self.types.grammar.alloc))
+        let expr = self.types.grammar.again(tokens, Rule::Assigned);
+        tokens.made(SpreadElement { dot3_token, expr }.into_tree(self.types.grammar.alloc))
     }
 
     // `a` or `a = b`
-    fn short_property(&self, tokens: &mut Tokens<'_>) -> Result<Tree, ParseError>
+    fn short_property(&self, tokens: &mut Tokens<'_>) -> Tree
         requires { Nests self.now.types.grammar.depth (F.pre self.now.types.grammar.parse) }
     {
         let alloc = self.types.grammar.alloc;
         let start = tokens.at.start();
-        let key = ident(alloc, tokens)?;
+        let key = ident(alloc, tokens);
         if !tokens.at.eat(TokenKind::Assign) {
-            return Ok(key);
+            return key;
         }
-        let value = self.types.grammar.again(tokens, Rule::Assigned)?;
+        let value = self.types.grammar.again(tokens, Rule::Assigned);
         let span = tokens.at.from(start);
-        parsed(AssignProp { span, key, value }.into_tree(alloc))
+        tokens.made(AssignProp { span, key, value }.into_tree(alloc))
     }
 
     // What stands behind a key: a value, or a function.
-    fn keyed(
-        &self,
-        tokens: &mut Tokens<'_>,
-        start: SourcePos,
-        marks: Marks,
-        key: Tree,
-    ) -> Result<Tree, ParseError>
+    fn keyed(&self, tokens: &mut Tokens<'_>, start: SourcePos, marks: Marks, key: Tree) -> Tree
         requires { Nests self.now.types.grammar.depth (F.pre self.now.types.grammar.parse) }
     {
         let alloc = self.types.grammar.alloc;
         if tokens.at.is(TokenKind::LParen) || tokens.at.is(TokenKind::Less) {
-            let function = self.function(tokens, start, marks, Tree::list(Items::new(alloc)))?;
-            return parsed(MethodProp { key, function }.into_tree(alloc));
+            let function = self.function(tokens, start, marks, Tree::list(Items::new(alloc)));
+            return tokens.made(MethodProp { key, function }.into_tree(alloc));
         }
         if marks.is_async || marks.is_generator {
-            return Err(tokens.at.refuse());
+            return tokens.refuse();
         }
-        tokens.at.expect(TokenKind::Colon)?;
-        let value = self.types.grammar.again(tokens, Rule::Assigned)?;
-        parsed(KeyValueProp { key, value }.into_tree(alloc))
+        tokens.expect(TokenKind::Colon);
+        let value = self.types.grammar.again(tokens, Rule::Assigned);
+        tokens.made(KeyValueProp { key, value }.into_tree(alloc))
     }
 
     // `get a() {}` or `set a(b) {}`
-    fn accessor(&self, tokens: &mut Tokens<'_>, start: SourcePos) -> Result<Tree, ParseError>
+    fn accessor(&self, tokens: &mut Tokens<'_>, start: SourcePos) -> Tree
         requires { Nests self.now.types.grammar.depth (F.pre self.now.types.grammar.parse) }
     {
         let alloc = self.types.grammar.alloc;
         let is_getter = tokens.at.is_word(Keyword::Get);
         tokens.at.advance();
-        let key = self.types.prop_name(tokens)?;
+        let key = self.types.prop_name(tokens);
         let marks = Marks {
             is_async: false,
             is_generator: false,
         };
         let outer = enter_function(tokens, marks);
-        tokens.at.expect(TokenKind::LParen)?;
+        tokens.expect(TokenKind::LParen);
         let param = if is_getter {
             Tree::Absent
         } else {
-            self.types.grammar.again(tokens, Rule::SignatureParam)?
+            self.types.grammar.again(tokens, Rule::SignatureParam)
         };
         let _ = !is_getter && tokens.at.eat(TokenKind::Comma);
-        tokens.at.expect(TokenKind::RParen)?;
-        let type_ann = self.types.result(tokens)?;
-        let body = self.types.grammar.again(tokens, Rule::Body)?;
+        tokens.expect(TokenKind::RParen);
+        let type_ann = self.types.result(tokens);
+        let body = self.types.grammar.again(tokens, Rule::Body);
         let _ = tokens.at.enter(outer);
         let span = tokens.at.from(start);
         let made = if is_getter {
@@ -171,6 +165,6 @@ impl<F: Fn(Global, &mut Tokens<'_>, usize, Rule) -> Result<Tree, ParseError>> Va
             }
             .into_tree(alloc)
         };
-        parsed(made)
+        tokens.made(made)
     }
 }

@@ -2,7 +2,7 @@
 ghost use Rattle.fast_check_source_grammar.specs.Nests.{Nests};
 
 use crate::values::Values;
-use fast_check_source_grammar::{ParseError, Rule, Tokens, ident, parsed};
+use fast_check_source_grammar::{Rule, Tokens, ident};
 use fast_check_source_lexer::TokenKind;
 use fast_check_tree_forms_expressions::{
     ArrayPat, AssignPat, AssignPatProp, KeyValuePatProp, ObjectPat, PatExpr, RestPat, TargetPat,
@@ -26,56 +26,56 @@ fn is_ident(tree: &Tree) -> bool {
     }
 }
 
-impl<F: Fn(Global, &mut Tokens<'_>, usize, Rule) -> Result<Tree, ParseError>> Values<F> {
+impl<F: Fn(Global, &mut Tokens<'_>, usize, Rule) -> Tree> Values<F> {
     /// `[a, b]` or `{ a, b }` before `=`.
-    pub fn assigned_shape(&self, tokens: &mut Tokens<'_>) -> Result<Tree, ParseError>
+    pub fn assigned_shape(&self, tokens: &mut Tokens<'_>) -> Tree
         requires { Nests self.now.types.grammar.depth (F.pre self.now.types.grammar.parse) }
     {
-        let pat = self.shape(tokens)?;
-        parsed(TargetPat { pat }.into_tree(self.types.grammar.alloc))
+        let pat = self.shape(tokens);
+        tokens.made(TargetPat { pat }.into_tree(self.types.grammar.alloc))
     }
 
-    fn shape(&self, tokens: &mut Tokens<'_>) -> Result<Tree, ParseError>
+    fn shape(&self, tokens: &mut Tokens<'_>) -> Tree
         requires { Nests self.now.types.grammar.depth (F.pre self.now.types.grammar.parse) }
     {
         let alloc = self.types.grammar.alloc;
         let start = tokens.at.start();
         if tokens.at.is(TokenKind::LBracket) {
-            let elems = self.elements(tokens, Rule::TargetElement)?;
+            let elems = self.elements(tokens, Rule::TargetElement);
             let made = ArrayPat {
                 span: tokens.at.from(start),
                 elems,
                 optional: false,
                 type_ann: Tree::Absent,
             };
-            return parsed(made.into_tree(alloc));
+            return tokens.made(made.into_tree(alloc));
         }
-        tokens.at.expect(TokenKind::LBrace)?;
+        tokens.expect(TokenKind::LBrace);
         let props = self.types.grammar.list(
             tokens,
             Rule::TargetProperty,
             TokenKind::Comma,
             TokenKind::RBrace,
-        )?;
+        );
         let made = ObjectPat {
             span: tokens.at.from(start),
             props,
             optional: false,
             type_ann: Tree::Absent,
         };
-        parsed(made.into_tree(alloc))
+        tokens.made(made.into_tree(alloc))
     }
 
     /// What is assigned to: a pattern, a name or another value.
-    pub fn target(&self, tokens: &mut Tokens<'_>) -> Result<Tree, ParseError>
+    pub fn target(&self, tokens: &mut Tokens<'_>) -> Tree
         requires { Nests self.now.types.grammar.depth (F.pre self.now.types.grammar.parse) }
     {
         let alloc = self.types.grammar.alloc;
-        let saved = tokens.at;
+        let saved = tokens.save();
         // `a as A` and `<A>a` may be assigned to, which bind as tight as a comparison.
-        let expr = self.types.grammar.again(tokens, Rule::Operand(8))?;
+        let expr = self.types.grammar.again(tokens, Rule::Operand(8));
         if is_shape(&expr) {
-            tokens.at = saved;
+            tokens.go_back(saved);
             return self.shape(tokens);
         }
         if is_ident(&expr) {
@@ -83,42 +83,42 @@ impl<F: Fn(Global, &mut Tokens<'_>, usize, Rule) -> Result<Tree, ParseError>> Va
                 id: expr,
                 type_ann: Tree::Absent,
             };
-            return parsed(made.into_tree(alloc));
+            return tokens.made(made.into_tree(alloc));
         }
-        parsed(PatExpr { expr }.into_tree(alloc))
+        tokens.made(PatExpr { expr }.into_tree(alloc))
     }
 
     // A target with a value behind `=` that stands for it.
-    fn target_or_default(&self, tokens: &mut Tokens<'_>) -> Result<Tree, ParseError>
+    fn target_or_default(&self, tokens: &mut Tokens<'_>) -> Tree
         requires { Nests self.now.types.grammar.depth (F.pre self.now.types.grammar.parse) }
     {
         let start = tokens.at.start();
-        let left = self.target(tokens)?;
+        let left = self.target(tokens);
         if !tokens.at.eat(TokenKind::Assign) {
-            return Ok(left);
+            return left;
         }
-        let right = self.types.grammar.again(tokens, Rule::Assigned)?;
+        let right = self.types.grammar.again(tokens, Rule::Assigned);
         let span = tokens.at.from(start);
-        parsed(AssignPat { span, left, right }.into_tree(self.types.grammar.alloc))
+        tokens.made(AssignPat { span, left, right }.into_tree(self.types.grammar.alloc))
     }
 
-    fn target_rest(&self, tokens: &mut Tokens<'_>) -> Result<Tree, ParseError>
+    fn target_rest(&self, tokens: &mut Tokens<'_>) -> Tree
         requires { Nests self.now.types.grammar.depth (F.pre self.now.types.grammar.parse) }
     {
         let start = tokens.at.start();
         let dot3_token = tokens.at.here();
         tokens.at.advance();
-        let arg = self.target_or_default(tokens)?;
+        let arg = self.target_or_default(tokens);
         let made = RestPat {
             span: tokens.at.from(start),
             dot3_token,
             arg,
             type_ann: Tree::Absent,
         };
-        parsed(made.into_tree(self.types.grammar.alloc))
+        tokens.made(made.into_tree(self.types.grammar.alloc))
     }
 
-    pub fn target_element(&self, tokens: &mut Tokens<'_>) -> Result<Tree, ParseError>
+    pub fn target_element(&self, tokens: &mut Tokens<'_>) -> Tree
         requires { Nests self.now.types.grammar.depth (F.pre self.now.types.grammar.parse) }
     {
         if tokens.at.is(TokenKind::Dots) {
@@ -128,7 +128,7 @@ impl<F: Fn(Global, &mut Tokens<'_>, usize, Rule) -> Result<Tree, ParseError>> Va
         }
     }
 
-    pub fn target_property(&self, tokens: &mut Tokens<'_>) -> Result<Tree, ParseError>
+    pub fn target_property(&self, tokens: &mut Tokens<'_>) -> Tree
         requires { Nests self.now.types.grammar.depth (F.pre self.now.types.grammar.parse) }
     {
         if tokens.at.is(TokenKind::Dots) {
@@ -137,29 +137,29 @@ impl<F: Fn(Global, &mut Tokens<'_>, usize, Rule) -> Result<Tree, ParseError>> Va
         if tokens.at.is(TokenKind::Name) && !tokens.at.second().is(TokenKind::Colon) {
             return self.short_target(tokens);
         }
-        let key = self.types.prop_name(tokens)?;
-        tokens.at.expect(TokenKind::Colon)?;
-        let value = self.target_or_default(tokens)?;
-        parsed(KeyValuePatProp { key, value }.into_tree(self.types.grammar.alloc))
+        let key = self.types.prop_name(tokens);
+        tokens.expect(TokenKind::Colon);
+        let value = self.target_or_default(tokens);
+        tokens.made(KeyValuePatProp { key, value }.into_tree(self.types.grammar.alloc))
     }
 
     // `a` or `a = b`
-    fn short_target(&self, tokens: &mut Tokens<'_>) -> Result<Tree, ParseError>
+    fn short_target(&self, tokens: &mut Tokens<'_>) -> Tree
         requires { Nests self.now.types.grammar.depth (F.pre self.now.types.grammar.parse) }
     {
         let alloc = self.types.grammar.alloc;
         let start = tokens.at.start();
         let name = BindingIdent {
-            id: ident(alloc, tokens)?,
+            id: ident(alloc, tokens),
             type_ann: Tree::Absent,
         };
-        let key = name.into_tree(alloc)?;
+        let key = tokens.made(name.into_tree(alloc));
         let value = if tokens.at.eat(TokenKind::Assign) {
-            self.types.grammar.again(tokens, Rule::Assigned)?
+            self.types.grammar.again(tokens, Rule::Assigned)
         } else {
             Tree::Absent
         };
         let span = tokens.at.from(start);
-        parsed(AssignPatProp { span, key, value }.into_tree(alloc))
+        tokens.made(AssignPatProp { span, key, value }.into_tree(alloc))
     }
 }

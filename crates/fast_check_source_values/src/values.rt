@@ -3,7 +3,7 @@ ghost use Rattle.fast_check_source_grammar.specs.Nests.{Nests};
 
 use crate::look_ahead::follows_args;
 use fast_check_source_grammar::{
-    Note, ParseError, Rule, Tokens, bool_literal, ident, ident_name, number, parsed, regex, string,
+    Note, Rule, Tokens, Trees, bool_literal, ident, ident_name, number, regex, string,
 };
 use fast_check_source_lexer::{Keyword, TokenKind};
 use fast_check_source_types::Types;
@@ -12,7 +12,7 @@ use fast_check_tree_forms_expressions::{
     ThisExpr, Tpl,
 };
 use fast_check_tree_forms_programs::Null;
-use fast_check_tree_syntax::{Atom, Items, SourcePos, SyntaxContext, Tree};
+use fast_check_tree_syntax::{Atom, SourcePos, SyntaxContext, Tree};
 use std::alloc::Global;
 
 /// The rules of values without operators.
@@ -22,38 +22,28 @@ pub struct Values<F> {
 }
 
 // `new.target` or `import.meta`, behind its dot.
-fn meta(
-    alloc: Global,
-    tokens: &mut Tokens<'_>,
-    start: SourcePos,
-    kind: &str,
-) -> Result<Tree, ParseError> {
+fn meta(alloc: Global, tokens: &mut Tokens<'_>, start: SourcePos, kind: &str) -> Tree {
     tokens.at.advance();
-    let made = MetaPropExpr {
-        span: tokens.at.from(start),
-        kind: Atom::from_str(alloc, kind)?,
+    let span = tokens.at.from(start);
+    let Some(kind) = tokens.text(Atom::from_str(alloc, kind)) else {
+        return Tree::Absent;
     };
-    parsed(made.into_tree(alloc))
+    tokens.made(MetaPropExpr { span, kind }.into_tree(alloc))
 }
 
-fn import(
-    alloc: Global,
-    tokens: &mut Tokens<'_>,
-    start: SourcePos,
-    phase: &str,
-) -> Result<Tree, ParseError> {
+fn import(alloc: Global, tokens: &mut Tokens<'_>, start: SourcePos, phase: &str) -> Tree {
     if !tokens.at.is(TokenKind::LParen) {
-        return Err(tokens.at.refuse());
+        return tokens.refuse();
     }
-    let made = Import {
-        span: tokens.at.from(start),
-        phase: Atom::from_str(alloc, phase)?,
+    let span = tokens.at.from(start);
+    let Some(phase) = tokens.text(Atom::from_str(alloc, phase)) else {
+        return Tree::Absent;
     };
-    parsed(made.into_tree(alloc))
+    tokens.made(Import { span, phase }.into_tree(alloc))
 }
 
 // `import.meta`, or `import` or `import.defer` as what is called.
-fn imported(alloc: Global, tokens: &mut Tokens<'_>) -> Result<Tree, ParseError> {
+fn imported(alloc: Global, tokens: &mut Tokens<'_>) -> Tree {
     let start = tokens.at.start();
     tokens.at.advance();
     if !tokens.at.eat(TokenKind::Dot) {
@@ -68,25 +58,25 @@ fn imported(alloc: Global, tokens: &mut Tokens<'_>) -> Result<Tree, ParseError> 
             tokens.at.advance();
             import(alloc, tokens, start, "defer")
         }
-        _ => Err(tokens.at.refuse()),
+        _ => tokens.refuse(),
     }
 }
 
-fn this(alloc: Global, tokens: &mut Tokens<'_>) -> Result<Tree, ParseError> {
+fn this(alloc: Global, tokens: &mut Tokens<'_>) -> Tree {
     let span = tokens.at.here();
     tokens.at.advance();
-    parsed(ThisExpr { span }.into_tree(alloc))
+    tokens.made(ThisExpr { span }.into_tree(alloc))
 }
 
-fn null(alloc: Global, tokens: &mut Tokens<'_>) -> Result<Tree, ParseError> {
+fn null(alloc: Global, tokens: &mut Tokens<'_>) -> Tree {
     let span = tokens.at.here();
     tokens.at.advance();
-    parsed(Null { span }.into_tree(alloc))
+    tokens.made(Null { span }.into_tree(alloc))
 }
 
-impl<F: Fn(Global, &mut Tokens<'_>, usize, Rule) -> Result<Tree, ParseError>> Values<F> {
+impl<F: Fn(Global, &mut Tokens<'_>, usize, Rule) -> Tree> Values<F> {
     /// A value with nothing behind it.
-    pub fn value(&self, tokens: &mut Tokens<'_>) -> Result<Tree, ParseError>
+    pub fn value(&self, tokens: &mut Tokens<'_>) -> Tree
         requires { Nests self.now.types.grammar.depth (F.pre self.now.types.grammar.parse) }
     {
         let alloc = self.types.grammar.alloc;
@@ -101,11 +91,11 @@ impl<F: Fn(Global, &mut Tokens<'_>, usize, Rule) -> Result<Tree, ParseError>> Va
             TokenKind::LBrace => self.object(tokens),
             TokenKind::At => self.types.grammar.again(tokens, Rule::ClassValue),
             TokenKind::Less if tokens.at.within().jsx => self.jsx(tokens),
-            _ => Err(tokens.at.refuse()),
+            _ => tokens.refuse(),
         }
     }
 
-    fn word_value(&self, tokens: &mut Tokens<'_>) -> Result<Tree, ParseError>
+    fn word_value(&self, tokens: &mut Tokens<'_>) -> Tree
         requires { Nests self.now.types.grammar.depth (F.pre self.now.types.grammar.parse) }
     {
         let alloc = self.types.grammar.alloc;
@@ -130,31 +120,31 @@ impl<F: Fn(Global, &mut Tokens<'_>, usize, Rule) -> Result<Tree, ParseError>> Va
         }
     }
 
-    fn parenthesized(&self, tokens: &mut Tokens<'_>) -> Result<Tree, ParseError>
+    fn parenthesized(&self, tokens: &mut Tokens<'_>) -> Tree
         requires { Nests self.now.types.grammar.depth (F.pre self.now.types.grammar.parse) }
     {
         let start = tokens.at.start();
         tokens.at.advance();
-        let expr = self.types.grammar.again(tokens, Rule::Expression)?;
-        tokens.at.expect(TokenKind::RParen)?;
+        let expr = self.types.grammar.again(tokens, Rule::Expression);
+        tokens.expect(TokenKind::RParen);
         let span = tokens.at.from(start);
-        parsed(ParenExpr { span, expr }.into_tree(self.types.grammar.alloc))
+        tokens.made(ParenExpr { span, expr }.into_tree(self.types.grammar.alloc))
     }
 
     /// `[a]` behind a value.
-    pub fn computed(&self, tokens: &mut Tokens<'_>) -> Result<Tree, ParseError>
+    pub fn computed(&self, tokens: &mut Tokens<'_>) -> Tree
         requires { Nests self.now.types.grammar.depth (F.pre self.now.types.grammar.parse) }
     {
         let start = tokens.at.start();
         tokens.at.advance();
-        let expr = self.types.grammar.again(tokens, Rule::Expression)?;
-        tokens.at.expect(TokenKind::RBracket)?;
+        let expr = self.types.grammar.again(tokens, Rule::Expression);
+        tokens.expect(TokenKind::RBracket);
         let span = tokens.at.from(start);
-        parsed(ComputedPropName { span, expr }.into_tree(self.types.grammar.alloc))
+        tokens.made(ComputedPropName { span, expr }.into_tree(self.types.grammar.alloc))
     }
 
     // `super`, or `super.a` or `super[a]`.
-    fn super_value(&self, tokens: &mut Tokens<'_>) -> Result<Tree, ParseError>
+    fn super_value(&self, tokens: &mut Tokens<'_>) -> Tree
         requires { Nests self.now.types.grammar.depth (F.pre self.now.types.grammar.parse) }
     {
         let alloc = self.types.grammar.alloc;
@@ -163,40 +153,38 @@ impl<F: Fn(Global, &mut Tokens<'_>, usize, Rule) -> Result<Tree, ParseError>> Va
         let prop = match tokens.at.kind() {
             TokenKind::LParen => {
                 let span = tokens.at.from(start);
-                return parsed(Super { span }.into_tree(alloc));
+                return tokens.made(Super { span }.into_tree(alloc));
             }
-            TokenKind::LBracket => self.computed(tokens)?,
+            TokenKind::LBracket => self.computed(tokens),
             _ => {
-                tokens.at.expect(TokenKind::Dot)?;
-                ident_name(alloc, tokens)?
+                tokens.expect(TokenKind::Dot);
+                ident_name(alloc, tokens)
             }
         };
         let span = tokens.at.from(start);
-        parsed(SuperPropExpr { span, prop }.into_tree(alloc))
+        tokens.made(SuperPropExpr { span, prop }.into_tree(alloc))
     }
 
     /// Type arguments of a value, if such come next.
-    pub fn value_args(&self, tokens: &mut Tokens<'_>) -> Result<Option<Tree>, ParseError>
+    pub fn value_args(&self, tokens: &mut Tokens<'_>) -> Option<Tree>
         requires { Nests self.now.types.grammar.depth (F.pre self.now.types.grammar.parse) }
     {
         let opens = tokens.at.is(TokenKind::Less) || tokens.at.is(TokenKind::LeftShift);
         if !opens || tokens.is_noted(Note::NoArgs) {
-            return Ok(None);
+            return None;
         }
-        let saved = tokens.at;
-        match self.types.type_args(tokens) {
-            Ok(args) if follows_args(tokens.at) => Ok(Some(args)),
-            Err(ParseError::Memory) => Err(ParseError::Memory),
-            _ => {
-                tokens.note(Note::NoArgs, saved.place())?;
-                tokens.at = saved;
-                Ok(None)
-            }
+        let saved = tokens.save();
+        let args = self.types.type_args(tokens);
+        if !tokens.is_stopped() && follows_args(tokens.at) {
+            return Some(args);
         }
+        tokens.note(Note::NoArgs, saved.at.place());
+        tokens.go_back(saved);
+        None
     }
 
     // `new A<B>(c)`, or `new.target`.
-    fn constructed(&self, tokens: &mut Tokens<'_>) -> Result<Tree, ParseError>
+    fn constructed(&self, tokens: &mut Tokens<'_>) -> Tree
         requires { Nests self.now.types.grammar.depth (F.pre self.now.types.grammar.parse) }
     {
         let alloc = self.types.grammar.alloc;
@@ -206,15 +194,15 @@ impl<F: Fn(Global, &mut Tokens<'_>, usize, Rule) -> Result<Tree, ParseError>> Va
             if tokens.at.inside(0, 0) == "target" {
                 return meta(alloc, tokens, start, "new.target");
             }
-            return Err(tokens.at.refuse());
+            return tokens.refuse();
         }
-        let callee = self.types.grammar.again(tokens, Rule::Constructed)?;
-        let type_args = match self.value_args(tokens)? {
+        let callee = self.types.grammar.again(tokens, Rule::Constructed);
+        let type_args = match self.value_args(tokens) {
             Some(args) => args,
             None => Tree::Absent,
         };
         let args = if tokens.at.eat(TokenKind::LParen) {
-            self.types.grammar.list(tokens, Rule::Argument, TokenKind::Comma, TokenKind::RParen)?
+            self.types.grammar.list(tokens, Rule::Argument, TokenKind::Comma, TokenKind::RParen)
         } else {
             Tree::Absent
         };
@@ -225,52 +213,52 @@ impl<F: Fn(Global, &mut Tokens<'_>, usize, Rule) -> Result<Tree, ParseError>> Va
             args,
             type_args,
         };
-        parsed(made.into_tree(alloc))
+        tokens.made(made.into_tree(alloc))
     }
 
-    fn array(&self, tokens: &mut Tokens<'_>) -> Result<Tree, ParseError>
+    fn array(&self, tokens: &mut Tokens<'_>) -> Tree
         requires { Nests self.now.types.grammar.depth (F.pre self.now.types.grammar.parse) }
     {
         let start = tokens.at.start();
-        let elems = self.elements(tokens, Rule::Argument)?;
+        let elems = self.elements(tokens, Rule::Argument);
         let span = tokens.at.from(start);
-        parsed(ArrayLit { span, elems }.into_tree(self.types.grammar.alloc))
+        tokens.made(ArrayLit { span, elems }.into_tree(self.types.grammar.alloc))
     }
 
     /// `[a, , b]` by a rule for each element that is not missing.
-    pub fn elements(&self, tokens: &mut Tokens<'_>, rule: Rule) -> Result<Tree, ParseError>
+    pub fn elements(&self, tokens: &mut Tokens<'_>, rule: Rule) -> Tree
         requires { Nests self.now.types.grammar.depth (F.pre self.now.types.grammar.parse) }
     {
         tokens.at.advance();
-        let mut elems = Items::new(self.types.grammar.alloc);
+        let mut elems = Trees::new(self.types.grammar.alloc);
         for _turn in 0..tokens.at.left() {
             if tokens.at.is(TokenKind::RBracket) {
                 break;
             }
             if tokens.at.eat(TokenKind::Comma) {
-                elems.push(Tree::Absent)?;
+                elems.push(Tree::Absent);
                 continue;
             }
-            elems.push(self.types.grammar.again(tokens, rule)?)?;
+            elems.push(self.types.grammar.again(tokens, rule));
             if !tokens.at.eat(TokenKind::Comma) {
                 break;
             }
         }
-        tokens.at.expect(TokenKind::RBracket)?;
-        Ok(Tree::list(elems))
+        tokens.expect(TokenKind::RBracket);
+        tokens.list(elems)
     }
 
     /// A template with expressions in it.
-    pub fn template(&self, tokens: &mut Tokens<'_>) -> Result<Tree, ParseError>
+    pub fn template(&self, tokens: &mut Tokens<'_>) -> Tree
         requires { Nests self.now.types.grammar.depth (F.pre self.now.types.grammar.parse) }
     {
         let start = tokens.at.start();
-        let (exprs, quasis) = self.types.template_parts(tokens, Rule::Expression)?;
+        let (exprs, quasis) = self.types.template_parts(tokens, Rule::Expression);
         let made = Tpl {
             span: tokens.at.from(start),
             exprs,
             quasis,
         };
-        parsed(made.into_tree(self.types.grammar.alloc))
+        tokens.made(made.into_tree(self.types.grammar.alloc))
     }
 }
