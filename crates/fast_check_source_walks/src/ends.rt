@@ -21,7 +21,7 @@ pub fn own_range(kind: Kind, parts: &[Tree]) -> Option<SourceRange>
 
 /// Where the last range of a tree ends, or 0 where it has none.
 #[cycle(ends)]
-#[tactic(auto, using(crate::proofs::Levels::end_node, crate::proofs::Levels::end_range, crate::proofs::Levels::end_absent, crate::proofs::Levels::end_flag, crate::proofs::Levels::end_context, crate::proofs::Levels::end_text, crate::proofs::Levels::end_word, fast_check_source_walks::proofs::Heights::node_height))]
+#[tactic(auto, using(crate::proofs::Levels::end_node, crate::proofs::Levels::end_range, crate::proofs::Levels::end_absent, crate::proofs::Levels::end_flag, crate::proofs::Levels::end_context, crate::proofs::Levels::end_text, crate::proofs::Levels::end_word, crate::proofs::Heights::node_height))]
 pub fn end_of(tree: &Tree) -> u32
     ensures { result ≡ last tree.now }
 {
@@ -41,7 +41,7 @@ pub fn end_of(tree: &Tree) -> u32
 
 /// The last place where one of the trees ends.
 #[cycle(ends)]
-#[tactic(auto, using(crate::proofs::Levels::end_more, fast_check_source_walks::proofs::Heights::one_height))]
+#[tactic(auto, using(crate::proofs::Levels::end_more, crate::proofs::Heights::one_height))]
 fn end_of_all(trees: &[Tree]) -> u32
     ensures { result ≡ highest (map last trees.now) }
 {

@@ -15,7 +15,7 @@ fn is_between(low: u32, range: SourceRange, high: u32) -> bool
 
 /// Whether the ranges of a tree lie between two places, each in that of the node around it, and the items of each list behind one another.
 #[cycle(nested)]
-#[tactic(auto, using(crate::proofs::Levels::nested_node, crate::proofs::Levels::nested_range, crate::proofs::Levels::nested_absent, crate::proofs::Levels::nested_flag, crate::proofs::Levels::nested_context, crate::proofs::Levels::nested_text, crate::proofs::Levels::nested_word, fast_check_source_walks::proofs::Heights::node_height))]
+#[tactic(auto, using(crate::proofs::Levels::nested_node, crate::proofs::Levels::nested_range, crate::proofs::Levels::nested_absent, crate::proofs::Levels::nested_flag, crate::proofs::Levels::nested_context, crate::proofs::Levels::nested_text, crate::proofs::Levels::nested_word, crate::proofs::Heights::node_height))]
 pub fn is_nested(tree: &Tree, low: u32, high: u32) -> bool
     ensures { result ≡ lies tree.now low high }
 {
@@ -51,7 +51,7 @@ fn are_inside(kind: Kind, parts: &[Tree], own: SourceRange) -> bool
 
 /// The same of the parts of a class.
 #[cycle(nested)]
-#[tactic(auto, using(fast_check_source_walks::proofs::Heights::one_height))]
+#[tactic(auto, using(crate::proofs::Heights::one_height))]
 fn are_in_class(parts: &[Tree], own: SourceRange) -> bool
     ensures { result ≡ lie_in_class (map lies parts.now) own }
 {
@@ -65,7 +65,7 @@ fn are_in_class(parts: &[Tree], own: SourceRange) -> bool
 
 /// Whether the ranges of each tree lie between two places.
 #[cycle(nested)]
-#[tactic(auto, using(crate::proofs::Levels::all_step, fast_check_source_walks::proofs::Heights::one_height))]
+#[tactic(auto, using(crate::proofs::Levels::all_step, crate::proofs::Heights::one_height))]
 fn are_nested(trees: &[Tree], low: u32, high: u32) -> bool
     ensures { result ≡ list_all (λ test. test low high) (map lies trees.now) }
 {
@@ -79,7 +79,7 @@ fn are_nested(trees: &[Tree], low: u32, high: u32) -> bool
 
 /// Whether the ranges of each tree lie between two places and behind those of the trees before it.
 #[cycle(nested)]
-#[tactic(auto, using(crate::proofs::Levels::follow_step, fast_check_source_walks::proofs::Heights::one_height))]
+#[tactic(auto, using(crate::proofs::Levels::follow_step, crate::proofs::Heights::one_height))]
 fn are_in_order(trees: &[Tree], low: u32, high: u32) -> bool
     ensures { result ≡ they_follow trees.now (map lies trees.now) low high }
 {
