@@ -1,7 +1,7 @@
 //! Declarations of a declaration file, or of an ambient namespace, are exported without a word where no list of exports stands beside them. Since a list
 //! goes from a skeleton, the word is written in here.
-use fast_check_source_walks::Waiting;
 use fast_check_source_references::declared::{declaration_of, is_declaration, says_exports};
+use fast_check_source_walks::Waiting;
 use fast_check_tree_forms_classes::{Class, Function};
 use fast_check_tree_forms_programs::{ExportDecl, Module};
 use fast_check_tree_forms_statements::{

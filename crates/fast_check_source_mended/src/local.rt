@@ -1,7 +1,7 @@
 //! Types that have a name of a body, which no skeleton could say.
 use crate::statements::variables_of;
-use fast_check_source_walks::Waiting;
 use fast_check_source_references::declared::{BoundNames, declarators, name_of};
+use fast_check_source_walks::Waiting;
 use fast_check_tree_forms_programs::Ident;
 use fast_check_tree_forms_statements::BlockStmt;
 use fast_check_tree_forms_types::{

@@ -1,8 +1,8 @@
 //! A skeleton by the words of its source.
 use crate::edits::{Edits, edited, range_of};
 use crate::statements::name_tree;
-use fast_check_source_walks::Waiting;
 use fast_check_source_references::keys::STATIC;
+use fast_check_source_walks::Waiting;
 use fast_check_tree_forms_programs::{ExportAll, IdentName, ImportDecl, NamedExport, Str};
 use fast_check_tree_forms_types::TsImportType;
 use fast_check_tree_syntax::{Atom, Kind, Part, Tree};

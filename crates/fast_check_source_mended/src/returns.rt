@@ -1,8 +1,8 @@
 //! Bodies of functions, cut to what says how they return.
 use crate::edits::{Edits, range_of};
 use crate::local::is_local;
-use fast_check_source_walks::{Waiting, holds_statements};
 use fast_check_source_references::returns::{asserted, inner};
+use fast_check_source_walks::{Waiting, holds_statements};
 use fast_check_tree_forms_expressions::{CallExpr, ThisExpr};
 use fast_check_tree_forms_statements::{BlockStmt, EmptyStmt, ExprStmt, ReturnStmt};
 use fast_check_tree_syntax::{Items, Kind, Part, SourcePos, SourceRange, Tree};

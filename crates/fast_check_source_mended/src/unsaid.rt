@@ -1,7 +1,7 @@
 //! Names whose type no skeleton says: those of parameters with a default, which may be left out there, and those in patterns, of which a skeleton has no names.
-use fast_check_source_walks::Waiting;
 use fast_check_source_references::declared::BoundNames;
 use fast_check_source_references::names::id_of;
+use fast_check_source_walks::Waiting;
 use fast_check_tree_forms_classes::{Constructor, Function, Param, TsParamProp};
 use fast_check_tree_forms_expressions::{
     ArrowExpr, AssignPat, RestPat, SetterProp, TsAsExpr, TsNonNullExpr, TsTypeAssertion,

@@ -1,7 +1,7 @@
 //! What statements, patterns and parameters bind.
 use crate::scope::{ANY, Meaning, NAMESPACE, ScopeNo, Scopes, TYPE, VALUE};
-use fast_check_source_walks::{Waiting, holds_statements};
 use fast_check_source_references::declared::BoundNames;
+use fast_check_source_walks::{Waiting, holds_statements};
 use fast_check_tree_forms_expressions::{ClassExpr, FnExpr};
 use fast_check_tree_forms_programs::{
     ExportDecl, ExportDefaultDecl, Ident, ImportDecl, ImportDefaultSpecifier, ImportNamedSpecifier,

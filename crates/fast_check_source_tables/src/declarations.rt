@@ -1,11 +1,11 @@
 //! Declarations.
 use crate::builder::{Binds, Declaration, Flags, PLAIN, SymbolNo, Tables, Target};
 use crate::items::{Task, Way};
-use fast_check_source_walks::Waiting;
 use fast_check_source_references::declared::{declarators, push_bound};
 use fast_check_source_references::dependencies::Dependencies;
 use fast_check_source_references::functions::type_of_pattern;
 use fast_check_source_references::names::text_of;
+use fast_check_source_walks::Waiting;
 use fast_check_tree_forms_classes::{Class, Function};
 use fast_check_tree_forms_expressions::ParenExpr;
 use fast_check_tree_forms_statements::{

@@ -2,8 +2,8 @@
 ghost use Rattle.std.specs.Prelude.{◌≡◌, ◌≤◌, IfOk, []};
 
 use crate::builder::{Binds, Declaration, Draft, Flags, MODULE, SymbolNo, Tables, Target};
-use fast_check_source_walks::Waiting;
 use fast_check_source_references::dependencies::{Dependencies, Dependency, Space};
+use fast_check_source_walks::Waiting;
 use fast_check_tables_symbols::{
     ModuleTables, ReferenceNamespace, Symbol, SymbolDecl, SymbolDeclKind, SymbolDecls, SymbolDep,
     SymbolExports, SymbolId, SymbolNode, SymbolNodeDep,

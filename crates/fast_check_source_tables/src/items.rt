@@ -1,12 +1,12 @@
 //! The items of a module or of a namespace.
 use crate::builder::{Binds, MODULE, PLAIN, SymbolNo, Tables};
 use crate::declarations::Setting;
-use fast_check_source_walks::Waiting;
 use fast_check_source_references::declared::{
     declaration_of, declared_names, is_declaration, says_exports,
 };
 use fast_check_source_references::dependencies::Dependencies;
 use fast_check_source_references::names::text_of;
+use fast_check_source_walks::Waiting;
 use fast_check_tree_forms_expressions::{AssignExpr, MemberExpr};
 use fast_check_tree_forms_statements::ExprStmt;
 use fast_check_tree_syntax::{Atom, Kind, Part, SourceRange};

@@ -30,10 +30,14 @@ fn tag_name<'a>(tokens: &mut Tokens<'a>) -> &'a str {
     tokens.at.text_from(start)
 }
 
+fn is_no_blank(byte: &u8) -> bool {
+    !byte.is_ascii_whitespace()
+}
+
 // Whether two tags have one name, with or without blanks in it.
 fn is_one_name(first: &str, second: &str) -> bool {
-    let first = first.bytes().filter(|byte| !byte.is_ascii_whitespace());
-    first.eq(second.bytes().filter(|byte| !byte.is_ascii_whitespace()))
+    let first = first.bytes().filter(is_no_blank);
+    first.eq(second.bytes().filter(is_no_blank))
 }
 
 // Passes the `>` that ends an element, and the text behind it where the element stands in another.
@@ -60,7 +64,8 @@ impl<F: Fn(Global, &mut Tokens<'_>, usize, Rule) -> Tree> Values<F> {
             return Tree::Absent;
         }
         let span = tokens.at.from(start);
-        let Some(raw) = tokens.text(Atom::from_str(alloc, tokens.at.text_from(start))) else {
+        let raw = Atom::from_str(alloc, tokens.at.text_from(start));
+        let Some(raw) = tokens.text(raw) else {
             return Tree::Absent;
         };
         let made = if is_fragment {
