@@ -141,6 +141,22 @@ pub fn text_of<'a>(configs: &'a [Config], key: &str) -> Option<&'a str> {
     member(configs, key)?.as_str()
 }
 
+// Pushes what the items of a list, or conditions, lead to, the first one last.
+fn push_inner<'a>(entry: &'a Value, out: &mut Vec<&'a Value>) -> Result<(), AllocError> {
+    if let Some(list) = entry.as_array() {
+        for each in list.iter().rev() {
+            out.push(each)?;
+        }
+        return Ok(());
+    }
+    for condition in CONDITIONS.iter().rev() {
+        if let Some(inner) = entry.get(*condition) {
+            out.push(inner)?;
+        }
+    }
+    Ok(())
+}
+
 /// The path that an entry has: a text, or the first condition that leads to one.
 pub fn path_of<'a>(alloc: Global, entry: &'a Value) -> Result<Option<&'a str>, AllocError> {
     let mut waiting = Vec::new(alloc);
@@ -149,20 +165,10 @@ pub fn path_of<'a>(alloc: Global, entry: &'a Value) -> Result<Option<&'a str>, A
         let Some(next) = waiting.pop() else {
             break;
         };
-        if let Some(path) = next.as_str() {
-            if !path.is_empty() {
-                return Ok(Some(path));
-            }
-        } else if let Some(list) = next.as_array() {
-            for each in list.iter().rev() {
-                waiting.push(each)?;
-            }
-        } else {
-            for condition in CONDITIONS.iter().rev() {
-                if let Some(inner) = next.get(*condition) {
-                    waiting.push(inner)?;
-                }
-            }
+        match next.as_str() {
+            Some(path) if !path.is_empty() => return Ok(Some(path)),
+            Some(_) => {}
+            None => push_inner(next, &mut waiting)?,
         }
     }
     Ok(None)
@@ -180,6 +186,21 @@ fn target_of(alloc: Global, folder: &str, path: &str) -> Result<Option<String>, 
     Ok(Some(target))
 }
 
+// Adds what a name of imports stands for.
+fn add_import(
+    alloc: Global,
+    folder: &str,
+    key: &str,
+    entry: &Value,
+    out: &mut BTreeMap<String, Option<String>>,
+) -> Result<(), AllocError> {
+    if let Some(path) = path_of(alloc, entry)? {
+        let target = target_of(alloc, folder, path)?;
+        let _ = out.insert(String::from_str(alloc, key)?, target)?;
+    }
+    Ok(())
+}
+
 /// Adds what the configurations of a folder say that names of imports stand for.
 pub fn add_imports(
     alloc: Global,
@@ -188,13 +209,9 @@ pub fn add_imports(
     out: &mut BTreeMap<String, Option<String>>,
 ) -> Result<(), AllocError> {
     for config in configs.iter().rev() {
-        let Some(map) = config.value.get("imports").and_then(Value::as_object) else {
-            continue;
-        };
-        for (key, entry) in map.iter() {
-            if let Some(path) = path_of(alloc, entry)? {
-                let target = target_of(alloc, folder, path)?;
-                let _ = out.insert(String::from_str(alloc, key.as_str())?, target)?;
+        if let Some(map) = config.value.get("imports").and_then(Value::as_object) {
+            for (key, entry) in map.iter() {
+                add_import(alloc, folder, key.as_str(), entry, out)?;
             }
         }
     }

@@ -220,11 +220,31 @@ impl Options {
     }
 }
 
-/// The options of a configuration, without those of the ones that it refers to.
-pub fn options_of(files: &Files<'_>, file: &str) -> Result<Options, AllocError> {
+// Takes what a file says, and pushes those that it extends.
+fn read_file(
+    files: &Files<'_>,
+    outer: &str,
+    path: &str,
+    options: &mut Options,
+    waiting: &mut Vec<String>,
+) -> Result<(), AllocError> {
+    let Some(object) = object_of(files, path)? else {
+        return Ok(());
+    };
     let alloc = files.alloc();
-    let outer = folder_of(file);
-    let mut options = Options::none();
+    let folder = folder_of(path);
+    let at = At {
+        alloc,
+        folder,
+        outer,
+    };
+    options.take(at, &object)?;
+    push_extended(files, folder, &object, waiting)
+}
+
+// Takes what a file says, and then what those say that it extends.
+fn read_files(files: &Files<'_>, file: &str, options: &mut Options) -> Result<(), AllocError> {
+    let alloc = files.alloc();
     let mut seen = BTreeSet::new(alloc);
     let mut waiting = Vec::new(alloc);
     waiting.push(String::from_str(alloc, file)?)?;
@@ -232,22 +252,18 @@ pub fn options_of(files: &Files<'_>, file: &str) -> Result<Options, AllocError> 
         let Some(path) = waiting.pop() else {
             break;
         };
-        if seen.contains(path.as_str()) {
-            continue;
+        if !seen.contains(path.as_str()) {
+            read_file(files, folder_of(file), path.as_str(), options, &mut waiting)?;
+            let _ = seen.insert(path)?;
         }
-        let Some(object) = object_of(files, path.as_str())? else {
-            continue;
-        };
-        let folder = folder_of(path.as_str());
-        let at = At {
-            alloc,
-            folder,
-            outer,
-        };
-        options.take(at, &object)?;
-        push_extended(files, folder, &object, &mut waiting)?;
-        let _ = seen.insert(String::from_str(alloc, path.as_str())?)?;
     }
+    Ok(())
+}
+
+/// The options of a configuration, without those of the ones that it refers to.
+pub fn options_of(files: &Files<'_>, file: &str) -> Result<Options, AllocError> {
+    let mut options = Options::none();
+    read_files(files, file, &mut options)?;
     Ok(options)
 }
 
@@ -324,29 +340,52 @@ fn push_sources(
     Ok(())
 }
 
-/// The sources that a configuration in a folder takes.
-pub fn sources_of(
+// Adds the sources that a configuration names one by one.
+fn push_listed(
+    files: &Files<'_>,
+    listed: &[String],
+    out: &mut BTreeSet<String>,
+) -> Result<(), AllocError> {
+    for path in listed {
+        if language_of(path.as_str()) == Language::TypeScript && files.is_file(path.as_str())? {
+            let _ = out.insert(path.clone()?)?;
+        }
+    }
+    Ok(())
+}
+
+// Adds the sources that the patterns of a configuration take.
+fn push_included(
+    files: &Files<'_>,
+    include: &[String],
+    options: &Options,
+    out: &mut BTreeSet<String>,
+) -> Result<(), AllocError> {
+    let mut tops = BTreeSet::new(files.alloc());
+    for pattern in include {
+        let top = top_of(pattern.as_str());
+        if tops.insert(top)? {
+            push_sources(files, top, options, out)?;
+        }
+    }
+    Ok(())
+}
+
+/// Adds the sources that a configuration in a folder takes.
+pub fn add_sources(
     files: &Files<'_>,
     folder: &str,
     options: &Options,
-) -> Result<BTreeSet<String>, AllocError> {
-    let mut found = BTreeSet::new(files.alloc());
+    out: &mut BTreeSet<String>,
+) -> Result<(), AllocError> {
     if let Some(listed) = &options.files {
-        for path in listed {
-            if language_of(path.as_str()) == Language::TypeScript && files.is_file(path.as_str())? {
-                let _ = found.insert(path.clone()?)?;
-            }
-        }
+        push_listed(files, listed.as_slice(), out)?;
     }
     if let Some(include) = &options.include {
-        let mut tops = BTreeSet::new(files.alloc());
-        for pattern in include {
-            if tops.insert(top_of(pattern.as_str()))? {
-                push_sources(files, top_of(pattern.as_str()), options, &mut found)?;
-            }
-        }
+        push_included(files, include.as_slice(), options, out)
     } else if options.files.is_none() {
-        push_sources(files, folder, options, &mut found)?;
+        push_sources(files, folder, options, out)
+    } else {
+        Ok(())
     }
-    Ok(found)
 }

@@ -2,7 +2,7 @@
 ghost use Rattle.std.specs.Prelude.{◌≡◌};
 
 use crate::exports::Entry;
-use fast_check_source_configs::options::{Options, options_of, sources_of};
+use fast_check_source_configs::options::{Options, add_sources, options_of};
 use fast_check_source_configs::paths::{behind, inside};
 use fast_check_source_configs::tsconfig::{Projects, references};
 use fast_check_source_files::files::{Files, Standing, folder_of, joined, name_of};
@@ -356,25 +356,35 @@ fn push_below(
     Ok(())
 }
 
-// Adds the sources of a project by the files that the compiler writes for them.
+// Adds the sources of a project in a folder by the files that the compiler writes for them.
+fn push_written(
+    files: &Files<'_>,
+    own: &str,
+    project: &Options,
+    out: &mut BTreeMap<String, String>,
+) -> Result<(), AllocError> {
+    let alloc = files.alloc();
+    let mut sources = BTreeSet::new(alloc);
+    add_sources(files, own, project, &mut sources)?;
+    if let Some(root) = &project.root {
+        return push_below(alloc, project, &sources, root.as_str(), out);
+    }
+    let common = common_folder(&sources);
+    push_below(alloc, project, &sources, common, out)?;
+    push_below(alloc, project, &sources, own, out)
+}
+
+// The same of the project that a file says, if the compiler writes files for it.
 fn push_built(
     files: &Files<'_>,
     path: &str,
     out: &mut BTreeMap<String, String>,
 ) -> Result<(), AllocError> {
-    let alloc = files.alloc();
     let project = options_of(files, path)?;
-    if project.scripts.is_none() && project.declarations.is_none() {
-        return Ok(());
+    if project.scripts.is_some() || project.declarations.is_some() {
+        push_written(files, folder_of(path), &project, out)?;
     }
-    let own = folder_of(path);
-    let sources = sources_of(files, own, &project)?;
-    if let Some(root) = &project.root {
-        return push_below(alloc, &project, &sources, root.as_str(), out);
-    }
-    let common = common_folder(&sources);
-    push_below(alloc, &project, &sources, common, out)?;
-    push_below(alloc, &project, &sources, own, out)
+    Ok(())
 }
 
 /// The sources of a folder by the files that the compiler writes for them.

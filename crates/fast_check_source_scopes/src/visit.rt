@@ -4,7 +4,7 @@ use crate::binds::{
     bind_vars,
 };
 use crate::numbers::{Numbered, Numbers, with_numbers};
-use crate::scope::{ANY, GroupNo, NAMESPACE, ScopeNo, Scopes, TYPE, VALUE, number_of};
+use crate::scope::{ANY, GroupNo, Meaning, NAMESPACE, ScopeNo, Scopes, TYPE, VALUE, number_of};
 use fast_check_source_walks::Waiting;
 use fast_check_tree_forms_classes::{Class, Constructor, Function, StaticBlock};
 use fast_check_tree_forms_expressions::{ArrowExpr, ClassExpr, FnExpr, GetterProp, SetterProp};
@@ -447,71 +447,88 @@ impl<'a> Visit<'a> {
 
     fn declaration(&mut self, scope: ScopeNo, decl: Part<'a>) {
         match decl.kind() {
-            Kind::FnDecl => {
-                let FnDecl {
-                    ident,
-                    function,
-                    ..
-                } = FnDecl::of(decl);
-                self.resolve(scope, ident, VALUE);
-                self.later(scope, function)
-            }
-            Kind::ClassDecl => {
-                let ClassDecl { ident, class, .. } = ClassDecl::of(decl);
-                self.resolve(scope, ident, VALUE);
-                let inner = self.scopes.open(Some(scope));
-                self.class(inner, class)
-            }
-            Kind::FnExpr => {
-                let FnExpr { ident, function } = FnExpr::of(decl);
-                let inner = self.scopes.open(Some(scope));
-                if ident.kind() == Kind::Ident {
-                    self.scopes.bind(inner, Ident::of(ident).sym, VALUE);
-                }
-                self.resolve(inner, ident, VALUE);
-                self.function(inner, function)
-            }
-            Kind::ClassExpr => {
-                let ClassExpr { ident, class } = ClassExpr::of(decl);
-                let inner = self.scopes.open(Some(scope));
-                if ident.kind() == Kind::Ident {
-                    self.scopes
-                        .bind(inner, Ident::of(ident).sym, VALUE.with(TYPE));
-                }
-                self.resolve(inner, ident, VALUE);
-                self.class(inner, class)
-            }
-            Kind::TsInterfaceDecl => {
-                let TsInterfaceDecl {
-                    id,
-                    type_params,
-                    extends,
-                    body,
-                    ..
-                } = TsInterfaceDecl::of(decl);
-                let inner = self.scopes.open(Some(scope));
-                bind_type_params(&mut self.scopes, inner, type_params);
-                self.resolve(scope, id, TYPE);
-                self.later(inner, body);
-                self.later(inner, extends);
-                self.later(inner, type_params)
-            }
-            Kind::TsTypeAliasDecl => {
-                let TsTypeAliasDecl {
-                    id,
-                    type_params,
-                    type_ann,
-                    ..
-                } = TsTypeAliasDecl::of(decl);
-                let inner = self.scopes.open(Some(scope));
-                bind_type_params(&mut self.scopes, inner, type_params);
-                self.resolve(scope, id, TYPE);
-                self.later(inner, type_ann);
-                self.later(inner, type_params)
-            }
+            Kind::FnDecl => self.declared_function(scope, decl),
+            Kind::ClassDecl => self.declared_class(scope, decl),
+            Kind::FnExpr => self.function_value(scope, decl),
+            Kind::ClassExpr => self.class_value(scope, decl),
+            Kind::TsInterfaceDecl => self.interface(scope, decl),
+            Kind::TsTypeAliasDecl => self.alias(scope, decl),
             Kind::TsEnumDecl => self.enumeration(scope, decl),
             _ => self.namespace(scope, decl),
         }
+    }
+
+    fn declared_function(&mut self, scope: ScopeNo, decl: Part<'a>) {
+        let FnDecl {
+            ident,
+            function,
+            ..
+        } = FnDecl::of(decl);
+        self.resolve(scope, ident, VALUE);
+        self.later(scope, function)
+    }
+
+    fn declared_class(&mut self, scope: ScopeNo, decl: Part<'a>) {
+        let ClassDecl { ident, class, .. } = ClassDecl::of(decl);
+        self.resolve(scope, ident, VALUE);
+        let inner = self.scopes.open(Some(scope));
+        self.class(inner, class)
+    }
+
+    // The scope within a function or a class that is a value, in which its name is bound if it has one.
+    fn open_named(&mut self, scope: ScopeNo, ident: Part<'a>, meaning: Meaning) -> ScopeNo {
+        let inner = self.scopes.open(Some(scope));
+        if ident.kind() == Kind::Ident {
+            self.scopes.bind(inner, Ident::of(ident).sym, meaning);
+        }
+        self.resolve(inner, ident, VALUE);
+        inner
+    }
+
+    fn function_value(&mut self, scope: ScopeNo, decl: Part<'a>) {
+        let FnExpr { ident, function } = FnExpr::of(decl);
+        let inner = self.open_named(scope, ident, VALUE);
+        self.function(inner, function)
+    }
+
+    fn class_value(&mut self, scope: ScopeNo, decl: Part<'a>) {
+        let ClassExpr { ident, class } = ClassExpr::of(decl);
+        let inner = self.open_named(scope, ident, VALUE.with(TYPE));
+        self.class(inner, class)
+    }
+
+    // The scope within a type that is declared, in which its type parameters are bound.
+    fn open_type(&mut self, scope: ScopeNo, id: Part<'a>, type_params: Part<'a>) -> ScopeNo {
+        let inner = self.scopes.open(Some(scope));
+        bind_type_params(&mut self.scopes, inner, type_params);
+        self.resolve(scope, id, TYPE);
+        inner
+    }
+
+    fn interface(&mut self, scope: ScopeNo, decl: Part<'a>) {
+        let TsInterfaceDecl {
+            id,
+            type_params,
+            extends,
+            body,
+            ..
+        } = TsInterfaceDecl::of(decl);
+        let inner = self.open_type(scope, id, type_params);
+        self.later(inner, body);
+        self.later(inner, extends);
+        self.later(inner, type_params)
+    }
+
+    fn alias(&mut self, scope: ScopeNo, decl: Part<'a>) {
+        let TsTypeAliasDecl {
+            id,
+            type_params,
+            type_ann,
+            ..
+        } = TsTypeAliasDecl::of(decl);
+        let inner = self.open_type(scope, id, type_params);
+        self.later(inner, type_ann);
+        self.later(inner, type_params)
     }
 
     fn enumeration(&mut self, scope: ScopeNo, decl: Part<'a>) {
