@@ -112,15 +112,16 @@ pub fn input_of(
     packages: &[&Package],
     found: Found,
 ) -> Result<(Input, BTreeMap<Url, String>)> {
+    let mut found = found;
+    put_all_names(alloc, &mut found.modules, &found.resolutions)?;
+    let members = members_of(alloc, packages)?;
+    let pending = pending_of(alloc, packages)?;
     let Found {
-        mut modules,
+        modules,
         graph,
         resolutions,
         own_names,
     } = found;
-    put_all_names(alloc, &mut modules, &resolutions)?;
-    let members = members_of(alloc, packages)?;
-    let pending = pending_of(alloc, packages)?;
     let input = Input {
         modules,
         graph,

@@ -11,29 +11,62 @@ pub struct Names {
     pub targets: Vec<Url>,
 }
 
+// Pushes the names that a module exports itself.
+fn push_exports(
+    alloc: Global,
+    tables: &ModuleTables,
+    out: &mut Vec<String>,
+) -> Result<(), AllocError> {
+    let Some(module) = tables.symbols.first() else {
+        return Ok(());
+    };
+    for place in 0..module.exports.len() {
+        if let Some((name, _)) = module.exports.at(place) {
+            out.push(String::from_str(alloc, name)?)?;
+        }
+    }
+    Ok(())
+}
+
+// The module that a re-export of all leads to.
+fn target_of<'a>(
+    resolved: Option<&'a BTreeMap<String, Url>>,
+    node: &ReExportAllNode,
+) -> Option<&'a Url> {
+    resolved?.get(node.specifier.as_str())
+}
+
 /// Those of the tables of a module.
 pub fn names_of(
     alloc: Global,
     tables: &ModuleTables,
     resolved: Option<&BTreeMap<String, Url>>,
 ) -> Result<Names, AllocError> {
-    let mut own = Vec::new(alloc);
-    if let Some(module) = tables.symbols.first() {
-        for place in 0..module.exports.len() {
-            if let Some((name, _)) = module.exports.at(place) {
-                own.push(String::from_str(alloc, name)?)?;
-            }
-        }
-    }
-    let mut targets = Vec::new(alloc);
+    let mut names = Names {
+        own: Vec::new(alloc),
+        targets: Vec::new(alloc),
+    };
+    push_exports(alloc, tables, &mut names.own)?;
     for node in tables.re_export_all_nodes.iter() {
-        if let Some(resolved) = resolved
-            && let Some(target) = resolved.get(node.specifier.as_str())
-        {
-            targets.push(target.clone()?)?;
+        if let Some(target) = target_of(resolved, node) {
+            names.targets.push(target.clone()?)?;
         }
     }
-    Ok(Names { own, targets })
+    Ok(names)
+}
+
+// Notes the modules whose names a module exports again, and pushes those that were not noted.
+fn push_targets<'a>(
+    names: &'a Names,
+    seen: &mut BTreeSet<&'a Url>,
+    waiting: &mut Vec<&'a Url>,
+) -> Result<(), AllocError> {
+    for target in names.targets.iter() {
+        if seen.insert(target)? {
+            waiting.push(target)?;
+        }
+    }
+    Ok(())
 }
 
 // The modules that re-exports of all lead to from a module.
@@ -50,14 +83,42 @@ fn reached<'a>(
             break;
         };
         if let Some(names) = world.get(next) {
-            for target in names.targets.iter() {
-                if seen.insert(target)? {
-                    waiting.push(target)?;
-                }
-            }
+            push_targets(names, &mut seen, &mut waiting)?;
         }
     }
     Ok(seen)
+}
+
+// Adds the names that a module exports itself, but for `default` where another one exports them again.
+fn add_names<'a>(
+    names: &'a Names,
+    is_other: bool,
+    out: &mut BTreeSet<&'a str>,
+) -> Result<(), AllocError> {
+    for name in names.own.iter() {
+        if !is_other || name.as_str() != "default" {
+            let _ = out.insert(name.as_str())?;
+        }
+    }
+    Ok(())
+}
+
+// Adds the names that a module answers.
+fn add_answered<'a>(
+    alloc: Global,
+    world: &'a BTreeMap<Url, Names>,
+    module: &'a Url,
+    out: &mut BTreeSet<&'a str>,
+) -> Result<(), AllocError> {
+    if let Some(names) = world.get(module) {
+        add_names(names, false, out)?;
+    }
+    for other in reached(alloc, world, module)?.iter() {
+        if let Some(names) = world.get(*other) {
+            add_names(names, true, out)?;
+        }
+    }
+    Ok(())
 }
 
 /// All names that a module answers, with the module itself.
@@ -67,27 +128,22 @@ pub fn answered(
     module: &Url,
 ) -> Result<Vec<(String, Url)>, AllocError> {
     let mut found = BTreeSet::new(alloc);
-    if let Some(names) = world.get(module) {
-        for name in names.own.iter() {
-            let _ = found.insert(name.as_str())?;
-        }
-    }
-    for other in reached(alloc, world, module)?.iter() {
-        if *other != module
-            && let Some(names) = world.get(*other)
-        {
-            for name in names.own.iter() {
-                if name.as_str() != "default" {
-                    let _ = found.insert(name.as_str())?;
-                }
-            }
-        }
-    }
+    add_answered(alloc, world, module, &mut found)?;
     let mut made = Vec::new(alloc);
     for name in found.iter() {
         made.push((String::from_str(alloc, *name)?, module.clone()?))?;
     }
     Ok(made)
+}
+
+// Whether a module leads to another one by re-exports of all, or is that one.
+fn leads_to(
+    alloc: Global,
+    world: &BTreeMap<Url, Names>,
+    from: &Url,
+    module: &Url,
+) -> Result<bool, AllocError> {
+    Ok(from == module || reached(alloc, world, from)?.contains(&module))
 }
 
 /// The re-exports of all of a module. Since the first one that answers a name is followed, those that lead back to the module come last.
@@ -101,20 +157,16 @@ pub fn in_order(
     let mut first = Vec::new(alloc);
     let mut last = Vec::new(alloc);
     for node in nodes {
-        let mut leads_back = false;
-        if let Some(resolved) = resolved
-            && let Some(target) = resolved.get(node.specifier.as_str())
-        {
-            leads_back = target == module || reached(alloc, world, target)?.contains(&module);
-        }
+        let leads_back = match target_of(resolved, &node) {
+            Some(target) => leads_to(alloc, world, target, module)?,
+            None => false,
+        };
         if leads_back {
             last.push(node)?;
         } else {
             first.push(node)?;
         }
     }
-    for node in last {
-        first.push(node)?;
-    }
+    first.append(&mut last)?;
     Ok(first)
 }
