@@ -36,7 +36,7 @@ CHAPTERS = {
     "program": {"fast_check_program_commands": None},
     "forms": {"fast_check_tree_forms": None},
     "source": {
-        "fast_check_source_lexer": None, "fast_check_source_grammar": None, "fast_check_source_walks": None, "fast_check_source_walks": None,
+        "fast_check_source_lexer": None, "fast_check_source_grammar": None, "fast_check_source_walks": None,
         "fast_check_source_parser": None,
     },
 }
