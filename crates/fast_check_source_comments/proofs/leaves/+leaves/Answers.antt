@@ -1,6 +1,6 @@
 use Rattle.fast_check_tree_syntax.specs.Part.{seen}
-use Rattle.fast_check_source_parser.proofs.Lower.{item_lower}
-use Rattle.fast_check_source_parser.proofs.leaves.+leaves.Goals as goal
+use Rattle.fast_check_source_comments.proofs.Lower.{item_lower}
+use Rattle.fast_check_source_comments.proofs.leaves.+leaves.Goals as goal
 
 pub push_each-push_leaves-requires : goal.push_each-push_leaves-requires
 push_each-push_leaves-requires t c = (
