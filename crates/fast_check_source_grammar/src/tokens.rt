@@ -91,9 +91,10 @@ impl<'a> Tokens<'a> {
         }
     }
 
-    /// Notes why the text is not parsed, if nothing is noted yet, and goes on to its end, so that all rules end there. What they answer is of no account.
+    /// Notes why the text is not parsed, if nothing is noted yet, and goes on to its end, so that all rules end there. What they answer is of no account. That
+    /// memory ran out is noted in any case.
     pub fn stop(&mut self, why: ParseError) {
-        if self.fault.is_none() {
+        if self.fault.is_none() || why == ParseError::Memory {
             self.fault = Some(why);
         }
         self.at.pass_all();
