@@ -1,7 +1,7 @@
 #!/usr/bin/env bash
 # Refuses each request for memory of the program in turn, on eight examples of the three commands, and on stored runs of what no example has: a namespace of
 # expando properties, two versions of a class, an error that the finder reports, and an export text that refuses the build (refuse.py says what has to come);
-# and of `fast-check-source` in stored packages: aliases of a `tsconfig.json`, imports of npm, and a `package.json`. About two minutes.
+# and of `fast-check-source` in stored packages: aliases of a `tsconfig.json`, types of bodies, imports of npm, and a `package.json`. About two minutes.
 # usage: bench/check/refused_examples.sh [PROGRAM [SOURCE]]      (what the gate or ./fast-check has built, else ./fast-check proves and builds the first)
 set -eu
 top=$(cd "$(dirname "$(readlink -f "${BASH_SOURCE[0]}")")/../.." && pwd)
@@ -22,5 +22,5 @@ python3 -m bench refuse "$program" transform examples/{first,functions,classes,m
 python3 -m bench refuse "$program" build examples/build_{hello,canvas}.json \
   $stored/build_an_{entry_point_of_javascript_beside_another,export_that_does_not_join}.json || status=1
 python3 -m bench refuse "$program" pair examples/pair.json $stored/pair_a_readonly_property.json || status=1
-(cd tools/typescript/test/packages && PYTHONPATH="$top" python3 -m bench refuse --folders "$source" aliases held-lines package-json) || status=1
+(cd tools/typescript/test/packages && PYTHONPATH="$top" python3 -m bench refuse --folders "$source" aliases local-types held-lines package-json) || status=1
 exit "$status"
