@@ -11,6 +11,8 @@ use Rattle.fast_check_tables_cache.specs.CachedPackages.{used_item}
 use Rattle.fast_check_tables_cache.specs.declared.package_ranges.PackagePublicRanges.{PackagePublicRanges}
 use Rattle.fast_check_build_answers.specs.PackageAnswer.{Answer}
 use Rattle.fast_check_build_answers.specs.Answered.{by_nv, AreAnswered, sets}
+use Rattle.fast_check_build_answers.specs.Once.{AreAnsweredOnce}
+use Rattle.fast_check_build_answers.specs.declared.once.PackageAnswer.{PackageAnswer}
 use Rattle.fast_check_finder_loop.specs.demands.facts.GraphFacts.{Known, with_used}
 use Rattle.fast_check_finder_loop.specs.Refusals.{IsRefusal}
 use Rattle.fast_check_build.specs.Found.{IsFound}
@@ -44,6 +46,16 @@ abbrev pub IsStopped : Known → List Nv → Bool → (Nv → List (List ℕ) �
     (ℕ → Option ItemView) → BuildFault → Type 0
 IsStopped k roots first key old new fault =
     (IsRefusal k roots fault × (new ≡ old)) ⊎ ((fault ≡ OutOfMemory) × IsCutShort k roots first key old new)
+
+-- the same where the diagnostics of a package stand once
+pub record IsBuiltOnce (k : Known) (roots : List Nv) (first : Bool) (packages : List PackageAnswer) : Type 0 where
+  pub ranges : BTreeMap PackageNv PackagePublicRanges
+  pub found : IsFound k roots ranges
+  pub packages_in_order : IsOrdered by_nv ranges
+  pub answered : AreAnsweredOnce k.graph k.root_symbol first ranges.entries packages
+
+abbrev pub BuildsOnce : Known → List Nv → Bool → Result (Vec PackageAnswer Global) BuildFault → Type 0
+BuildsOnce k roots first result = MatchResult result (λ packages. IsBuiltOnce k roots first packages.items) (IsRefusal k roots)
 
 -- a build answers, or is refused
 abbrev pub Builds : Known → List Nv → Bool → Result (Vec Answer Global) BuildFault → Type 0

@@ -3,12 +3,14 @@ ghost use Rattle.std.specs.Prelude.{⊤, map, MatchOption};
 ghost use Rattle.fast_check_tables_packages.specs.Package.{nv_of};
 ghost use Rattle.fast_check_build_answers.specs.Input.{first_alone, KeepsKeys};
 ghost use Rattle.fast_check_build.specs.Found.{known_of};
-ghost use Rattle.fast_check_build.specs.Build.{Builds, BuildsWith};
+ghost use Rattle.fast_check_build.specs.Build.{Builds, BuildsOnce, BuildsWith};
 ghost use Rattle.fast_check_build.specs.Lent.{OldNew};
 
 use crate::finder::find_public_ranges;
 use fast_check_build_answers::transform_module::TransformOptions;
-use fast_check_build_answers::{BuildInput, ModuleAnswer, answer_all, answer_and_set_all};
+use fast_check_build_answers::{
+    BuildInput, ModuleAnswer, PackageAnswer, answer_all, answer_all_once, answer_and_set_all,
+};
 use fast_check_tables_cache::FastCheckCache;
 use fast_check_tables_graph::{ModuleGraph, RootSymbol};
 use fast_check_tables_packages::{BuildFault, JsrUrlProvider, PackageNv};
@@ -109,4 +111,37 @@ pub fn build_fast_check_type_graph(
         Some(cache) => build_with(alloc, cache, jsr_url_provider, input, pending_nvs),
         None => build_without(alloc, jsr_url_provider, input, pending_nvs),
     }
+}
+
+/// The build without a cache, package by package, with the diagnostics of each package once. Written out at each entry point, these are the answers of
+/// `build_fast_check_type_graph`, which holds a copy of them for each entry point. `InvalidExport` and `OutOfMemory` are as there.
+pub fn build_packages(
+    alloc: Global,
+    jsr_url_provider: &dyn JsrUrlProvider,
+    graph: &ModuleGraph,
+    root_symbol: &RootSymbol,
+    pending_nvs: VecDeque<PackageNv>,
+    options: &TransformOptions,
+) -> Result<Vec<PackageAnswer>, BuildFault>
+    ensures { let k = known_of graph.now root_symbol.now options.now.workspace_members.items (url_of jsr_url_provider.now) (nv_at jsr_url_provider.now) in
+        BuildsOnce k (map nv_of pending_nvs.items) options.now.should_error_on_first_diagnostic result }
+{
+    let input = BuildInput {
+        graph,
+        root_symbol,
+        options,
+    };
+    let ranges = find_public_ranges(
+        alloc,
+        None,
+        jsr_url_provider,
+        graph,
+        root_symbol,
+        options.workspace_members.as_slice(),
+        pending_nvs,
+    )?;
+    // The map is in order.
+    let _ = ranges.len();
+    let packages = answer_all_once(alloc, input, ranges)?;
+    Ok(packages)
 }

@@ -5,4 +5,5 @@ pub mod ModuleAnswer
 pub mod Kept
 pub mod KeptAnswers
 pub mod Answered
+pub mod Once
 pub mod Owned

@@ -6,6 +6,7 @@ mod cached;
 mod input;
 mod kept;
 mod law;
+mod once;
 mod packages;
 mod used;
 
@@ -13,4 +14,5 @@ pub use answer::{ModuleAnswer, answer_package};
 pub use fast_check_transform_module as transform_module;
 pub use input::BuildInput;
 pub use law::first_alone;
+pub use once::{PackageAnswer, answer_all_once};
 pub use packages::{answer_all, answer_and_set_all};

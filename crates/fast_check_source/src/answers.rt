@@ -1,62 +1,44 @@
 //! What is answered of the modules of packages.
+use crate::asked::asked_names;
 use crate::follow::Found;
 use crate::members::{members_of, pending_of};
-use crate::world::{Names, answered, in_order, names_of};
+use crate::world::world_of;
 use anyhow::Result;
-use fast_check_build::answers::ModuleAnswer;
-use fast_check_build::build_fast_check_type_graph;
+use fast_check_build::answers::{ModuleAnswer, PackageAnswer};
+use fast_check_build::build_packages;
 use fast_check_source_input::{FALLBACK, Input, Parsed};
 use fast_check_source_mended::restored_skeleton;
 use fast_check_source_packages::resolve::Package;
 use fast_check_tables_diagnostics::parsed_source::FastCheckModule;
 use fast_check_tables_graph::{AnyModuleInfo, ModuleGraph, RootSymbol};
 use fast_check_tables_modules::EsModuleInfo;
+use fast_check_tables_modules::diagnostics::FastCheckDiagnostic;
 use fast_check_tables_packages::{ListedPackages, PackageNv, WorkspaceMember};
-use fast_check_tables_symbols::ModuleTables;
 use fast_check_transform_module::TransformOptions;
 use fast_check_tree_syntax::Tree;
 use std::alloc::{AllocError, Global};
-use std::collections::{BTreeMap, VecDeque};
+use std::collections::{BTreeMap, BTreeSet, VecDeque};
 use url::Url;
 
-// What each module answers itself, and whose names it exports again.
-fn world_of(
-    alloc: Global,
-    modules: &BTreeMap<Url, Parsed>,
-    resolutions: &BTreeMap<Url, BTreeMap<String, Url>>,
-) -> Result<BTreeMap<Url, Names>, AllocError> {
-    let mut world = BTreeMap::new(alloc);
-    for (url, module) in modules.iter() {
-        let names = names_of(alloc, &module.tables, resolutions.get(url))?;
-        let _ = world.insert(url.clone()?, names)?;
-    }
-    Ok(world)
-}
-
-// Notes the names that a module answers.
-fn put_names(
-    alloc: Global,
-    world: &BTreeMap<Url, Names>,
-    url: &Url,
-    resolved: Option<&BTreeMap<String, Url>>,
-    tables: &mut ModuleTables,
-) -> Result<(), AllocError> {
-    tables.resolved_exports = answered(alloc, world, url)?;
-    let mut nodes = Vec::new(alloc);
-    std::mem::swap(&mut nodes, &mut tables.re_export_all_nodes);
-    tables.re_export_all_nodes = in_order(alloc, world, url, resolved, nodes)?;
-    Ok(())
-}
-
-// Notes the names that each of the modules answers.
+// Notes the names that each of the modules answers. Where an input is printed all of them are noted, and else those that a module may be asked for.
 fn put_all_names(
     alloc: Global,
     modules: &mut BTreeMap<Url, Parsed>,
     resolutions: &BTreeMap<Url, BTreeMap<String, Url>>,
+    asks_input: bool,
 ) -> Result<(), AllocError> {
-    let world = world_of(alloc, modules, resolutions)?;
-    for (url, module) in modules.iter_mut() {
-        put_names(alloc, &world, url, resolutions.get(url), &mut module.tables)?;
+    let world = world_of(alloc, &*modules, resolutions)?;
+    let answered = if asks_input {
+        world.all_answered(alloc, &None)?
+    } else {
+        world.all_answered(alloc, &Some(asked_names(alloc, &*modules)?))?
+    };
+    for ((url, module), names) in modules.iter_mut().zip(answered) {
+        let tables = &mut module.tables;
+        tables.resolved_exports = names;
+        let mut nodes = Vec::new(alloc);
+        std::mem::swap(&mut nodes, &mut tables.re_export_all_nodes);
+        tables.re_export_all_nodes = world.in_order(alloc, url, resolutions.get(url), nodes)?;
     }
     Ok(())
 }
@@ -111,9 +93,10 @@ pub fn input_of(
     alloc: Global,
     packages: &[&Package],
     found: Found,
+    asks_input: bool,
 ) -> Result<(Input, BTreeMap<Url, String>)> {
     let mut found = found;
-    put_all_names(alloc, &mut found.modules, &found.resolutions)?;
+    put_all_names(alloc, &mut found.modules, &found.resolutions, asks_input)?;
     let members = members_of(alloc, packages)?;
     let pending = pending_of(alloc, packages)?;
     let Found {
@@ -132,6 +115,61 @@ pub fn input_of(
     Ok((input, own_names))
 }
 
+/// What is answered of packages.
+#[derive(Drop)]
+pub struct Answered {
+    /// The modules with their skeletons; of a package with diagnostics, its first entry point with these.
+    pub answers: Vec<ModuleAnswer>,
+    /// The entry points that are answered as another one, each list after that one.
+    pub same: Vec<(Url, Vec<Url>)>,
+}
+
+impl Answered {
+    pub fn new(alloc: Global) -> Answered {
+        Answered {
+            answers: Vec::new(alloc),
+            same: Vec::new(alloc),
+        }
+    }
+
+    // Adds what a package with diagnostics is answered by.
+    fn refuse(
+        &mut self,
+        alloc: Global,
+        entrypoints: BTreeSet<Url>,
+        diagnostics: Vec<FastCheckDiagnostic>,
+    ) -> Result<(), AllocError> {
+        let mut others = Vec::new(alloc);
+        let mut first = None;
+        for entrypoint in entrypoints {
+            if first.is_none() {
+                first = Some(entrypoint);
+            } else {
+                others.push(entrypoint)?;
+            }
+        }
+        if let Some(first) = first {
+            self.same.push((first.clone()?, others))?;
+            self.answers.push((first, Err(diagnostics)))?;
+        }
+        Ok(())
+    }
+
+    // Adds what a package is answered by.
+    fn add(&mut self, alloc: Global, made: PackageAnswer) -> Result<(), AllocError> {
+        let PackageAnswer {
+            entrypoints,
+            mut skeletons,
+            diagnostics,
+        } = made;
+        if diagnostics.is_empty() {
+            self.answers.append(&mut skeletons)
+        } else {
+            self.refuse(alloc, entrypoints, diagnostics)
+        }
+    }
+}
+
 // What is answered of packages by the graph of their modules.
 fn answers_of(
     alloc: Global,
@@ -139,24 +177,21 @@ fn answers_of(
     root: &RootSymbol,
     workspace_members: Vec<WorkspaceMember>,
     pending: VecDeque<PackageNv>,
-) -> Result<Vec<ModuleAnswer>> {
+) -> Result<Answered> {
     let options = TransformOptions {
         workspace_members,
         should_error_on_first_diagnostic: false,
     };
     let provider = no_other_packages(alloc)?;
-    let answers = build_fast_check_type_graph(
-        alloc, None, &provider, graph, root, pending, &options,
-    )?;
-    Ok(answers)
+    let mut answered = Answered::new(alloc);
+    for made in build_packages(alloc, &provider, graph, root, pending, &options)? {
+        answered.add(alloc, made)?;
+    }
+    Ok(answered)
 }
 
 /// What is answered to it.
-pub fn build(
-    alloc: Global,
-    input: Input,
-    own_names: &BTreeMap<Url, String>,
-) -> Result<Vec<ModuleAnswer>> {
+pub fn build(alloc: Global, input: Input, own_names: &BTreeMap<Url, String>) -> Result<Answered> {
     let Input {
         modules,
         graph,
@@ -167,7 +202,7 @@ pub fn build(
     let infos = infos_of(alloc, modules)?;
     let root = RootSymbol::new(infos, BTreeMap::new(alloc))?;
     let graph = ModuleGraph::from_parts(alloc, graph, resolutions, BTreeMap::new(alloc))?;
-    let mut answers = answers_of(alloc, &graph, &root, members, pending)?;
-    restore_all(alloc, &mut answers, own_names)?;
-    Ok(answers)
+    let mut answered = answers_of(alloc, &graph, &root, members, pending)?;
+    restore_all(alloc, &mut answered.answers, own_names)?;
+    Ok(answered)
 }

@@ -1,6 +1,6 @@
 //! The line that is printed for a folder.
+use crate::answers::Answered;
 use crate::follow::{Lead, ReadFile};
-use fast_check_build::answers::ModuleAnswer;
 use fast_check_print::print_answers;
 use fast_check_source_configs::messages::Messages;
 use fast_check_source_files::messages::Message;
@@ -9,6 +9,7 @@ use fast_check_source_packages::exports::{Entry, Taken};
 use fast_check_source_packages::resolve::Package;
 use json::Writer;
 use std::alloc::{AllocError, Global};
+use url::Url;
 
 fn print_message(out: &mut Json, message: &Message) {
     out.begin_object();
@@ -103,7 +104,7 @@ fn print_files(out: &mut Json, files: &[ReadFile]) {
 /// What is told of the packages of a folder that can be read.
 #[derive(Drop)]
 pub enum Told {
-    Answers(Vec<ModuleAnswer>),
+    Answers(Answered),
     /// What `fast-check build` is asked of them.
     Input(Input),
 }
@@ -111,17 +112,43 @@ pub enum Told {
 impl Told {
     pub fn has_diagnostics(&self) -> bool {
         match self {
-            Told::Answers(answers) => answers.iter().any(|answer| answer.1.is_err()),
+            Told::Answers(answered) => !answered.same.is_empty(),
             Told::Input(_) => false,
         }
     }
+
+    // Takes out the entry points that are answered as others.
+    fn take_same(&mut self, alloc: Global) -> Vec<(Url, Vec<Url>)> {
+        let mut same = Vec::new(alloc);
+        if let Told::Answers(answered) = self {
+            std::mem::swap(&mut same, &mut answered.same);
+        }
+        same
+    }
+}
+
+// The entry points that are answered as another one: of each list of pairs the first is that one.
+fn print_same(out: &mut Json, same: &[(Url, Vec<Url>)]) {
+    out.key("same");
+    out.begin_array();
+    for (first, others) in same {
+        out.begin_array();
+        out.text(first.as_str());
+        out.begin_array();
+        for other in others.iter() {
+            out.text(other.as_str());
+        }
+        out.end_array();
+        out.end_array();
+    }
+    out.end_array();
 }
 
 fn print_told(alloc: Global, mut out: Writer, told: Told) -> Result<Writer, AllocError> {
     match told {
-        Told::Answers(answers) => {
+        Told::Answers(answered) => {
             out.key("answers")?;
-            print_answers(alloc, &mut out, answers)?;
+            print_answers(alloc, &mut out, answered.answers)?;
             Ok(out)
         }
         Told::Input(input) => {
@@ -142,6 +169,8 @@ pub fn line_of(
     if messages.lacks() {
         return Err(AllocError);
     }
+    let mut told = told;
+    let same = told.take_same(alloc);
     let mut out = Writer::new(Vec::new(alloc));
     out.begin_object()?;
     let mut out = Json::new(print_told(alloc, out, told)?);
@@ -152,6 +181,7 @@ pub fn line_of(
     print_packages(&mut out, packages);
     out.key("files");
     print_files(&mut out, files);
+    print_same(&mut out, same.as_slice());
     out.end_object();
     let out = out.finish()?;
     Ok(match String::from_utf8(out.into_inner()) {

@@ -8,6 +8,8 @@
 ghost use Rattle.std.specs.Prelude.{◌≡◌, ◌≢◌, IsTrue, vec_len};
 
 mod answers;
+mod asked;
+mod circles;
 mod follow;
 mod lines;
 mod media;
@@ -16,7 +18,7 @@ mod sources;
 mod urls;
 mod world;
 
-use crate::answers::{build, input_of};
+use crate::answers::{Answered, build, input_of};
 use crate::follow::{Found, Reading, modules_of};
 use crate::lines::{Told, line_of};
 use anyhow::{Error, Result};
@@ -82,12 +84,12 @@ fn status_of(messages: &Messages, has_diagnostics: bool) -> u8
 
 // What is told of the packages of a folder that can be read.
 fn told_of(alloc: Global, packages: &[&Package], found: Found, asks_input: bool) -> Result<Told> {
-    let (input, own_names) = input_of(alloc, packages, found)?;
+    let (input, own_names) = input_of(alloc, packages, found, asks_input)?;
     if asks_input {
         return Ok(Told::Input(input));
     }
     if packages.is_empty() {
-        return Ok(Told::Answers(Vec::new(alloc)));
+        return Ok(Told::Answers(Answered::new(alloc)));
     }
     Ok(Told::Answers(build(alloc, input, &own_names)?))
 }

@@ -1,4 +1,5 @@
 //! What a module is written in.
+use fast_check_source_files::files::name_of;
 use fast_check_tables_diagnostics::parsed_source::MediaType;
 
 // The first that a name ends with counts.
@@ -16,8 +17,16 @@ const ENDINGS: [(&str, MediaType); 11] = [
     (".jsx", MediaType::Jsx),
 ];
 
+// Whether a file has the declarations of one with another ending than those of code, as `a.d.css.ts` of `a.css`.
+fn declares_other(name: &str) -> bool {
+    name.ends_with(".ts") && name_of(name).contains(".d.")
+}
+
 /// What a file is written in, by its name.
 pub fn media_type(name: &str) -> MediaType {
+    if declares_other(name) {
+        return MediaType::Dts;
+    }
     for (ending, media_type) in ENDINGS {
         if name.ends_with(ending) {
             return media_type;

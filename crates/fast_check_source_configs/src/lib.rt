@@ -7,5 +7,6 @@ pub mod config;
 pub mod messages;
 pub mod options;
 pub mod paths;
+pub mod patterns;
 pub mod tsconfig;
 pub mod workspace;

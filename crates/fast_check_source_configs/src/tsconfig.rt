@@ -1,6 +1,7 @@
 //! What the `tsconfig.json` above a file says of imports: `paths`, `baseUrl`, `rootDirs` and `moduleSuffixes`, also by `extends` and `references`.
 use crate::options::{Options, object_of, options_of, written};
-use crate::paths::{behind, rest_of, with_rest};
+use crate::paths::{behind, with_rest};
+use crate::patterns::{Fit, Patterns};
 use fast_check_source_files::files::{Files, below, folder_of};
 use serde_json::Value;
 use std::alloc::{AllocError, Global};
@@ -12,8 +13,9 @@ const NAME: &str = "tsconfig.json";
 #[derive(Drop)]
 struct Project {
     base: Option<String>,
-    // What a pattern with at most one `*` stands for.
-    aliases: Vec<(String, Vec<String>)>,
+    // What a key with at most one `*` stands for.
+    aliases: BTreeMap<String, Vec<String>>,
+    patterns: Patterns,
     has_aliases: bool,
     roots: Vec<String>,
     suffixes: Vec<String>,
@@ -32,8 +34,8 @@ fn aliases_of(
     paths: &Value,
     folder: &str,
     outer: &str,
-) -> Result<Vec<(String, Vec<String>)>, AllocError> {
-    let mut made = Vec::new(alloc);
+) -> Result<BTreeMap<String, Vec<String>>, AllocError> {
+    let mut made = BTreeMap::new(alloc);
     let Some(map) = paths.as_object() else {
         return Ok(made);
     };
@@ -48,7 +50,7 @@ fn aliases_of(
                 }
             }
         }
-        made.push((String::from_str(alloc, key.as_str())?, targets))?;
+        let _ = made.insert(String::from_str(alloc, key.as_str())?, targets)?;
     }
     Ok(made)
 }
@@ -79,11 +81,16 @@ fn project_of(files: &Files<'_>, file: &str) -> Result<Project, AllocError> {
             };
             aliases_of(alloc, &paths, from, folder_of(file))?
         }
-        None => Vec::new(alloc),
+        None => BTreeMap::new(alloc),
     };
+    let mut patterns = Patterns::new(alloc);
+    for key in aliases.keys() {
+        patterns.note(key.as_str())?;
+    }
     Ok(Project {
         base,
         aliases,
+        patterns,
         has_aliases,
         roots: or_none(alloc, roots),
         suffixes: or_none(alloc, suffixes),
@@ -132,7 +139,8 @@ fn with_references(files: &Files<'_>, file: &str) -> Result<Project, AllocError>
 fn no_project(alloc: Global) -> Project {
     Project {
         base: None,
-        aliases: Vec::new(alloc),
+        aliases: BTreeMap::new(alloc),
+        patterns: Patterns::new(alloc),
         has_aliases: false,
         roots: Vec::new(alloc),
         suffixes: Vec::new(alloc),
@@ -165,14 +173,6 @@ fn project_in(files: &Files<'_>, folder: &str) -> Result<Project, AllocError> {
     Ok(no_project(alloc))
 }
 
-// How well a key fits a text: a text that is the key itself fits best.
-fn rank(key: &str) -> usize {
-    match key.find("*") {
-        Some(at) => at,
-        None => usize::MAX,
-    }
-}
-
 impl Project {
     // The paths that the aliases make of a text.
     fn push_aliases(
@@ -181,22 +181,9 @@ impl Project {
         text: &str,
         out: &mut Vec<String>,
     ) -> Result<(), AllocError> {
-        let mut best: Option<(usize, &(String, Vec<String>))> = None;
-        for alias in self.aliases.iter() {
-            let own = rank(alias.0.as_str());
-            let is_better = match best {
-                Some((before, _)) => own > before,
-                None => true,
-            };
-            if is_better && rest_of(alias.0.as_str(), text).is_some() {
-                best = Some((own, alias));
-            }
-        }
-        if let Some((_, alias)) = best
-            && let Some(rest) = rest_of(alias.0.as_str(), text)
-        {
-            for target in alias.1.iter() {
-                out.push(with_rest(alloc, target.as_str(), rest)?)?;
+        if let Some(Fit { target, rest }) = self.patterns.find(alloc, &self.aliases, text)? {
+            for path in target.iter() {
+                out.push(with_rest(alloc, path.as_str(), rest)?)?;
             }
         }
         if let Some(base) = &self.base

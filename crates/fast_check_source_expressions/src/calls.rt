@@ -16,7 +16,7 @@ pub enum Links {
     All,
     /// Behind `@`: all but brackets.
     Decorated,
-    /// Behind `new`: members and templates.
+    /// After `new`: members, templates and type arguments.
     Constructed,
     /// Behind `extends`: all but type arguments with no call behind them.
     Heir,
@@ -120,7 +120,7 @@ impl<F: Fn(Global, &mut Tokens<'_>, usize, Rule) -> Tree> Expressions<F> {
                 let made = tokens.made(made.into_tree(self.values.types.grammar.alloc));
                 linked(made, optional)
             }
-            TokenKind::Less | TokenKind::LeftShift if links != Links::Constructed => {
+            TokenKind::Less | TokenKind::LeftShift => {
                 self.argued(tokens, start, made, optional, links)
             }
             _ => Chain {
@@ -298,7 +298,7 @@ impl<F: Fn(Global, &mut Tokens<'_>, usize, Rule) -> Tree> Expressions<F> {
             };
         };
         match tokens.at.kind() {
-            TokenKind::LParen => {
+            TokenKind::LParen if links != Links::Constructed => {
                 let found = self.called(tokens, start, made, args, optional);
                 self.chained(tokens, start, found, optional)
             }

@@ -89,6 +89,8 @@ impl<F: Fn(Global, &mut Tokens<'_>, usize, Rule) -> Tree> Expressions<F> {
         tokens.at.rescan_operator();
         if assigns(tokens.at.kind()) && !is_operated(&left) {
             if tokens.at.is(TokenKind::Assign) && is_shape(&left) {
+                // Patterns nest, and the values that they were first read as would all be held.
+                drop(left);
                 tokens.go_back(saved);
                 tokens.note(Note::Target, saved.at.place());
                 return self.pattern_assignment(tokens);

@@ -5,7 +5,7 @@ use crate::expressions::Expressions;
 use crate::look_ahead::is_operand_in_line;
 use fast_check_source_grammar::{Cursor, Rule, Tokens, private_name};
 use fast_check_source_lexer::{Keyword, TokenKind};
-use fast_check_source_values::{binds, starts_value};
+use fast_check_source_values::binds;
 use fast_check_tree_forms_expressions::{
     AwaitExpr, BinExpr, TsAsExpr, TsConstAssertion, TsSatisfiesExpr, TsTypeAssertion, UnaryExpr,
     UpdateExpr,
@@ -25,16 +25,9 @@ fn is_update(at: Cursor<'_>) -> bool {
     at.is(TokenKind::Increment) || at.is(TokenKind::Decrement)
 }
 
-// Whether an `await` that comes next waits, and is no name.
+// Whether the next token is an `await` that is an operator rather than a name.
 fn awaits(at: Cursor<'_>) -> bool {
-    if !at.is_word(Keyword::Await) {
-        return false;
-    }
-    let within = at.within();
-    let next = at.second();
-    within.is_async
-        || is_operand_in_line(next)
-        || (!within.function && !next.newline() && starts_value(next) && binds(next) == 0)
+    at.is_word(Keyword::Await) && (at.within().is_async || is_operand_in_line(at.second()))
 }
 
 impl<F: Fn(Global, &mut Tokens<'_>, usize, Rule) -> Tree> Expressions<F> {
@@ -96,7 +89,11 @@ impl<F: Fn(Global, &mut Tokens<'_>, usize, Rule) -> Tree> Expressions<F> {
         let is_as = tokens.at.is_word(Keyword::As);
         tokens.at.advance();
         let alloc = self.values.types.grammar.alloc;
-        if tokens.at.eat_word(Keyword::Const) {
+        if tokens.at.is_word(Keyword::Const) {
+            if !is_as {
+                return tokens.refuse();
+            }
+            tokens.at.advance();
             let span = tokens.at.from(start);
             return tokens.made(TsConstAssertion { span, expr }.into_tree(alloc));
         }

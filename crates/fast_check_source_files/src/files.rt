@@ -253,10 +253,32 @@ impl<'a> Files<'a> {
         Ok(None)
     }
 
+    // The declarations of a file with another ending than those of code: `a.d.css.ts` of `a.css`.
+    fn declarations_of(
+        &self,
+        wanted: &str,
+        suffixes: &[String],
+    ) -> Result<Option<String>, AllocError> {
+        let Some((stem, ending)) = wanted.rsplit_once('.') else {
+            return Ok(None);
+        };
+        if ending.is_empty() || ending.contains("/") {
+            return Ok(None);
+        }
+        let mut path = joined(self.alloc(), stem, ".d.")?;
+        path.push_str(ending)?;
+        self.first_of(path.as_str(), &[".ts"], suffixes)
+    }
+
     /// The file that a path without or with an ending stands for, as TypeScript finds it. Before the ending stands one of the `suffixes`, if there are any.
     pub fn find(&self, wanted: &str, suffixes: &[String]) -> Result<Option<String>, AllocError> {
         let (stem, endings) = instead(wanted);
         if let Some(found) = self.first_of(stem, endings, suffixes)? {
+            return Ok(Some(found));
+        }
+        if endings.is_empty()
+            && let Some(found) = self.declarations_of(wanted, suffixes)?
+        {
             return Ok(Some(found));
         }
         if self.is_file(wanted)? {

@@ -10,6 +10,7 @@ use std::alloc::{AllocError, Global};
 pub struct Within {
     /// A function, of whatever kind.
     pub function: bool,
+    /// A place where `await` is an operator and names nothing.
     pub is_async: bool,
     pub is_generator: bool,
     /// A place where no conditional type stands, as behind its `extends`.
@@ -45,8 +46,8 @@ fn word_in(source: Source<'_>, token: Token) -> Keyword {
 }
 
 impl<'a> Cursor<'a> {
-    /// At the first token of a text, if it is not too long.
-    pub fn new(text: &'a str, jsx: bool) -> Option<Cursor<'a>> {
+    /// At the first token of a text, if it is not too long. `awaits` says whether `await` is an operator outside of functions, as in modules.
+    pub fn new(text: &'a str, jsx: bool, awaits: bool) -> Option<Cursor<'a>> {
         let source = Source::new(text)?;
         let token = source.scan(0);
         Some(Cursor {
@@ -57,7 +58,7 @@ impl<'a> Cursor<'a> {
             high: 0,
             within: Within {
                 function: false,
-                is_async: false,
+                is_async: awaits,
                 is_generator: false,
                 plain_type: false,
                 no_in: false,

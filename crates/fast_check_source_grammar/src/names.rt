@@ -49,14 +49,17 @@ pub fn is_reserved(word: Keyword) -> bool {
     )
 }
 
-/// Whether a name that is no reserved word comes next.
+/// Whether a name that is no reserved word comes next. `await` is reserved where it is an operator.
 pub fn sees_ident(tokens: &Tokens<'_>) -> bool {
-    tokens.at.is(TokenKind::Name) && !is_reserved(tokens.at.word())
+    let word = tokens.at.word();
+    let waits = word == Keyword::Await && tokens.at.within().is_async;
+    tokens.at.is(TokenKind::Name) && !is_reserved(word) && !waits
 }
 
 /// A name that is no reserved word, as an identifier.
 pub fn ident(alloc: Global, tokens: &mut Tokens<'_>) -> Tree {
     if sees_ident(tokens) {
+        tokens.note_name();
         word_ident(alloc, tokens)
     } else {
         tokens.refuse()

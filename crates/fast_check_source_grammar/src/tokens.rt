@@ -40,6 +40,8 @@ pub struct Tokens<'a> {
     fault: Option<ParseError>,
     // Whether something was read that stands in modules alone.
     module: bool,
+    // Whether `await` was read as a name outside of functions.
+    names_await: bool,
     no_arrows: BTreeSet<usize>,
     no_args: BTreeSet<usize>,
     no_constraints: BTreeSet<usize>,
@@ -50,12 +52,13 @@ pub struct Tokens<'a> {
 }
 
 impl<'a> Tokens<'a> {
-    /// At the first token of a text, if it is not too long.
-    pub fn new(alloc: Global, text: &'a str, jsx: bool) -> Option<Tokens<'a>> {
+    /// At the first token of a text, if it is not too long. `awaits` says whether `await` is an operator outside of functions.
+    pub fn new(alloc: Global, text: &'a str, jsx: bool, awaits: bool) -> Option<Tokens<'a>> {
         Some(Tokens {
-            at: Cursor::new(text, jsx)?,
+            at: Cursor::new(text, jsx, awaits)?,
             fault: None,
             module: false,
+            names_await: false,
             no_arrows: BTreeSet::new(alloc),
             no_args: BTreeSet::new(alloc),
             no_constraints: BTreeSet::new(alloc),
@@ -114,6 +117,12 @@ impl<'a> Tokens<'a> {
         let at = self.at.start();
         self.stop(ParseError::Unexpected(at));
         Tree::Absent
+    }
+
+    /// Notes that what was read since a place cannot stand there.
+    pub fn refuse_from(&mut self, saved: Saved<'a>) -> Tree {
+        self.go_back(saved);
+        self.refuse()
     }
 
     /// Notes that rules nest too deep here, or that the tree is too high.
@@ -197,6 +206,18 @@ impl<'a> Tokens<'a> {
 
     pub fn is_module(&self) -> bool {
         self.module
+    }
+
+    /// Notes that the next token is read as a name, where it is `await` outside of functions.
+    pub fn note_name(&mut self) {
+        if self.at.is_word(Keyword::Await) && !self.at.within().function {
+            self.names_await = true;
+        }
+    }
+
+    /// Whether `await` was read as a name outside of functions, which in a module it is not.
+    pub fn names_await(&self) -> bool {
+        self.names_await
     }
 
     /// The name that the next token is, with its escapes read, without so many bytes at its start.

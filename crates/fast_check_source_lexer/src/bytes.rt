@@ -102,12 +102,38 @@ pub(crate) fn decode(z: &[u8], at: usize) -> (char, usize)
     }
 }
 
-fn starts(c: char) -> bool {
-    c == '$' || c == '_' || unicode_ident::is_xid_start(c)
+// Characters of ID_Start that XID_Start lacks. All of them are in ID_Continue.
+fn is_compatibility_start(c: char) -> bool {
+    matches!(
+        c,
+        '\u{37A}' | '\u{E33}' | '\u{EB3}' | '\u{309B}' | '\u{309C}' | '\u{FC5E}'..='\u{FC63}'
+            | '\u{FDFA}'
+            | '\u{FDFB}'
+            | '\u{FE70}'
+            | '\u{FE72}'
+            | '\u{FE74}'
+            | '\u{FE76}'
+            | '\u{FE78}'
+            | '\u{FE7A}'
+            | '\u{FE7C}'
+            | '\u{FE7E}'
+            | '\u{FF9E}'
+            | '\u{FF9F}'
+    )
 }
 
+// ECMAScript's IdentifierStartChar.
+fn starts(c: char) -> bool {
+    c == '$' || c == '_' || unicode_ident::is_xid_start(c) || is_compatibility_start(c)
+}
+
+// ECMAScript's IdentifierPartChar.
 fn goes_on(c: char) -> bool {
-    c == '$' || c == '\u{200C}' || c == '\u{200D}' || unicode_ident::is_xid_continue(c)
+    c == '$'
+        || c == '\u{200C}'
+        || c == '\u{200D}'
+        || unicode_ident::is_xid_continue(c)
+        || is_compatibility_start(c)
 }
 
 // The place past an escape `\uXXXX` or `\u{X..}`, or `at` where none stands there.

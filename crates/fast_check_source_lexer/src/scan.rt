@@ -283,6 +283,8 @@ fn cut(z: &[u8], at: usize) -> (TokenKind, usize)
         b'`' => template(true, z, at + 1),
         b'0'..=b'9' => digits(z, at),
         b'.' if b.is_ascii_digit() => digits(z, at),
+        // A comment that is never closed: `past_gap` passes all others.
+        b'/' if b == b'*' => (TokenKind::Illegal, z.len()),
         _ => {
             let (kind, len) = punctuation(a, b, c);
             (some(kind), (at + len).min(z.len()))

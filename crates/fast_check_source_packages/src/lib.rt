@@ -4,5 +4,6 @@
 mod builds;
 mod entries;
 pub mod exports;
+mod imports;
 pub mod packages;
 pub mod resolve;

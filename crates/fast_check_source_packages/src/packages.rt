@@ -1,6 +1,7 @@
 //! What a folder says of its packages: names, versions, entry points, and the map of imports.
 use crate::entries::{Entries, entry_points};
 use crate::exports::{Entry, push_entry};
+use crate::imports::Imports;
 use crate::resolve::{Package, behind_links, typed};
 use fast_check_source_configs::config::{Config, add_imports, configs_of, member, text_of};
 use fast_check_source_configs::messages::{MessageList, Messages};
@@ -74,15 +75,11 @@ impl<'a> Place<'a> {
         true
     }
 
-    fn imports(
-        self,
-        alloc: Global,
-        configs: &[Config],
-    ) -> Result<BTreeMap<String, Option<String>>, AllocError> {
+    fn imports(self, alloc: Global, configs: &[Config]) -> Result<Imports, AllocError> {
         let mut imports = BTreeMap::new(alloc);
         add_imports(alloc, "", self.top, &mut imports)?;
         add_imports(alloc, self.folder, configs, &mut imports)?;
-        Ok(imports)
+        Imports::new(alloc, imports)
     }
 
     // A file behind links, where these do not lead out of the package.

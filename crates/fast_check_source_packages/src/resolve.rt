@@ -4,13 +4,13 @@ ghost use Rattle.fast_check_source_packages.specs.Folders.{LiesIn};
 
 use crate::builds::file_of;
 use crate::exports::{Entry, Taken};
+use crate::imports::{Imports, Mapped};
 use fast_check_source_configs::comments::self_types;
-use fast_check_source_configs::paths::{behind, rest_of, with_rest};
+use fast_check_source_configs::paths::behind;
 use fast_check_source_configs::tsconfig::Projects;
 use fast_check_source_files::files::{Files, below, folder_of, joined};
 use fast_check_source_files::languages::{Language, language_of};
 use std::alloc::{AllocError, Global};
-use std::collections::BTreeMap;
 
 /// A package: its folder below the one that was named, its name, its version and its entry points, each with the path of its file.
 #[derive(Drop)]
@@ -21,8 +21,7 @@ pub struct Package {
     pub exports: Vec<Entry>,
     /// What is read in place of entry points that are written.
     pub taken: Vec<Taken>,
-    /// What names of imports stand for: the path of a file, or nothing where they lead elsewhere.
-    pub imports: BTreeMap<String, Option<String>>,
+    pub imports: Imports,
 }
 
 /// Whether a text is a path from the folder of the module that has it.
@@ -46,74 +45,6 @@ pub fn package_at<'a>(packages: &'a [Package], path: &str) -> Option<&'a Package
         }
     }
     best
-}
-
-// What the map of imports makes of a text: nothing where no entry fits, and no path where it leads elsewhere.
-#[derive(Drop)]
-enum Mapped {
-    Unknown,
-    Elsewhere,
-    Path(String),
-}
-
-type Imports = BTreeMap<String, Option<String>>;
-
-// How well a key fits a text that it fits: one without a `*` fits best, else the one with the longest text before it.
-fn rank(key: &str) -> usize {
-    match key.find("*") {
-        Some(at) => at.saturating_add(1),
-        None => usize::MAX,
-    }
-}
-
-// The target of the key that fits a text best, and what stands for its `*`.
-fn by_pattern<'a>(imports: &'a Imports, text: &'a str) -> Option<(&'a Option<String>, &'a str)> {
-    let mut length: usize = 0;
-    let mut best = None;
-    for (key, target) in imports.iter() {
-        let key = key.as_str();
-        let own = rank(key);
-        if own > length
-            && let Some(rest) = rest_of(key, text)
-        {
-            length = own;
-            best = Some((target, rest));
-        }
-    }
-    best
-}
-
-// The target of the longest key for a folder that a text lies in, and what stands behind it.
-fn by_folder<'a>(imports: &'a Imports, text: &'a str) -> Option<(&'a Option<String>, &'a str)> {
-    let mut length: usize = 0;
-    let mut best = None;
-    for (key, target) in imports.iter() {
-        let key = key.as_str();
-        if key.ends_with("/")
-            && key.len() > length
-            && let Some(rest) = text.strip_prefix(key)
-        {
-            length = key.len();
-            best = Some((target, rest));
-        }
-    }
-    best
-}
-
-fn by_imports(alloc: Global, package: &Package, text: &str) -> Result<Mapped, AllocError> {
-    if let Some((target, rest)) = by_pattern(&package.imports, text) {
-        return match target {
-            Some(target) => Ok(Mapped::Path(with_rest(alloc, target.as_str(), rest)?)),
-            None => Ok(Mapped::Elsewhere),
-        };
-    }
-    if let Some((target, rest)) = by_folder(&package.imports, text) {
-        return match target {
-            Some(target) => Ok(Mapped::Path(joined(alloc, target.as_str(), rest)?)),
-            None => Ok(Mapped::Elsewhere),
-        };
-    }
-    Ok(Mapped::Unknown)
 }
 
 // A text without the scheme of a registry.
@@ -253,7 +184,7 @@ fn first_found(
         return relative(files, projects, from, text);
     }
     let mapped = match package_at(packages, from) {
-        Some(package) => by_imports(files.alloc(), package, text)?,
+        Some(package) => package.imports.find(files.alloc(), text)?,
         None => Mapped::Unknown,
     };
     match mapped {

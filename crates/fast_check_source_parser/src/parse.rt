@@ -124,18 +124,40 @@ fn file(
     }
 }
 
-/// The tree of a file that has this text, which may hold JSX or not. It is no higher than 4,000 nodes. Each range lies in the text and in that of the
-/// node around it, and the items of each list stand behind one another; the decorators of a class may stand before it.
-pub fn parse_program(alloc: Global, text: &str, jsx: bool) -> Result<Tree, ParseError>
-    ensures low { IfOk result (λ tree. height tree ≤ 4000) }
-    ensures nested { IfOk result (λ tree. lies tree 1 (length text.now + 1) ≡ true) }
-{
-    if text.len() >= 4294967295 {
-        return Err(ParseError::TooLong);
+// The items of a file as they were read, or why the text is not parsed.
+#[derive(Drop)]
+struct Parsed {
+    span: SourceRange,
+    body: Tree,
+    is_module: bool,
+    // Whether `await` was read as a name outside of functions.
+    names_await: bool,
+    fault: Option<ParseError>,
+}
+
+impl Parsed {
+    // Whether the text has to be read again with `await` as an operator outside of functions: it is a module, or not known to be none.
+    fn ask_for_await(&self) -> bool {
+        self.names_await
+            && match self.fault {
+                None => self.is_module,
+                Some(fault) => fault != ParseError::Memory,
+            }
     }
-    let Some(mut tokens) = Tokens::new(alloc, text, jsx) else {
-        return Err(ParseError::TooLong);
-    };
+
+    // Of the items of a text without and with `await` as an operator outside of functions, those that stand. Where both are at fault the first fault is said.
+    fn or(self, again: Parsed) -> Parsed {
+        let stands = match again.fault {
+            None => again.is_module,
+            Some(fault) => fault == ParseError::Memory || self.fault.is_none(),
+        };
+        if stands { again } else { self }
+    }
+}
+
+// Reads the items of a file, or answers nothing where its text is too long.
+fn items(alloc: Global, text: &str, jsx: bool, awaits: bool) -> Option<Parsed> {
+    let mut tokens = Tokens::new(alloc, text, jsx, awaits)?;
     let is_empty = tokens.at.is(TokenKind::End);
     let start = if is_empty {
         SourcePos(1)
@@ -157,18 +179,56 @@ pub fn parse_program(alloc: Global, text: &str, jsx: bool) -> Result<Tree, Parse
     } else {
         tokens.at.from(start)
     };
-    let is_module = is_module || tokens.is_module();
-    let body = tokens.list(items);
-    if let Some(fault) = tokens.fault() {
+    Some(Parsed {
+        span,
+        body: tokens.list(items),
+        is_module: is_module || tokens.is_module(),
+        names_await: tokens.names_await(),
+        fault: tokens.fault(),
+    })
+}
+
+// Reads the items of a file: in a module `await` is an operator outside of functions, and in a script it may be a name.
+fn read(alloc: Global, text: &str, jsx: bool) -> Option<Parsed> {
+    let found = items(alloc, text, jsx, false)?;
+    if !found.ask_for_await() {
+        return Some(found);
+    }
+    let again = items(alloc, text, jsx, true)?;
+    Some(found.or(again))
+}
+
+/// The tree of a file that has this text, which may hold JSX or not. It is no higher than 4,000 nodes. Each range lies in the text and in that of the
+/// node around it, and the items of each list stand behind one another; the decorators of a class may stand before it.
+pub fn parse_program(alloc: Global, text: &str, jsx: bool) -> Result<Tree, ParseError>
+    ensures low { IfOk result (λ tree. height tree ≤ 4000) }
+    ensures nested { IfOk result (λ tree. lies tree 1 (length text.now + 1) ≡ true) }
+{
+    if text.len() >= 4294967295 {
+        return Err(ParseError::TooLong);
+    }
+    let Some(
+        Parsed {
+            span,
+            body,
+            is_module,
+            fault,
+            ..
+        },
+    ) = read(alloc, text, jsx)
+    else {
+        return Err(ParseError::TooLong);
+    };
+    if let Some(fault) = fault {
         return Err(fault);
     }
     let tree = file(alloc, span, body, shebang(alloc, text)?, is_module)?;
     if !is_at_most(&tree, MAX_HEIGHT) {
-        return Err(ParseError::TooDeep(start));
+        return Err(ParseError::TooDeep(span.start));
     }
     let end = (text.len() + 1) as u32;
     if !is_nested(&tree, 1, end) {
-        return Err(ParseError::Unexpected(start));
+        return Err(ParseError::Unexpected(span.start));
     }
     Ok(tree)
 }

@@ -59,10 +59,115 @@ pub struct ScopeNo(pub usize);
 struct Scope {
     parent: Option<ScopeNo>,
     names: BTreeMap<Atom, Meaning>,
-    // What its block exports to the other blocks of the same namespace or enum.
+    // What its block exports to the other blocks of the same namespace or enum, until it joins them.
     shown: BTreeMap<Atom, Meaning>,
     // The blocks of that namespace or enum, this one among them.
     joined: Option<GroupNo>,
+}
+
+// The first two blocks that show a name with one meaning. A block looks at what the others show, so a third one is never asked for.
+#[derive(Clone, Copy)]
+struct Blocks {
+    first: Option<ScopeNo>,
+    second: Option<ScopeNo>,
+}
+
+const NO_BLOCKS: Blocks = Blocks {
+    first: None,
+    second: None,
+};
+
+impl Blocks {
+    // With a later block, if that shows the name.
+    fn with(self, scope: ScopeNo, shows: bool) -> Blocks {
+        match (shows, self.first, self.second) {
+            (true, None, _) => Blocks {
+                first: Some(scope),
+                ..self
+            },
+            (true, Some(_), None) => Blocks {
+                second: Some(scope),
+                ..self
+            },
+            _ => self,
+        }
+    }
+
+    // The first block other than one that asks.
+    fn other(self, scope: ScopeNo) -> Option<ScopeNo> {
+        if self.first == Some(scope) {
+            self.second
+        } else {
+            self.first
+        }
+    }
+}
+
+// The blocks that show a name, by its meanings.
+#[derive(Clone, Copy)]
+struct Shown {
+    values: Blocks,
+    types: Blocks,
+    namespaces: Blocks,
+}
+
+const NOT_SHOWN: Shown = Shown {
+    values: NO_BLOCKS,
+    types: NO_BLOCKS,
+    namespaces: NO_BLOCKS,
+};
+
+// The earlier one of two blocks.
+fn earlier(a: Option<ScopeNo>, b: Option<ScopeNo>) -> Option<ScopeNo> {
+    match (a, b) {
+        (Some(a), Some(b)) if b.0 < a.0 => Some(b),
+        (Some(a), _) => Some(a),
+        (None, b) => b,
+    }
+}
+
+impl Shown {
+    fn with(self, scope: ScopeNo, meaning: Meaning) -> Shown {
+        Shown {
+            values: self.values.with(scope, meaning.value),
+            types: self.types.with(scope, meaning.is_type),
+            namespaces: self.namespaces.with(scope, meaning.namespace),
+        }
+    }
+
+    // The first block other than one that asks, which shows the name with one of these meanings.
+    fn other(self, scope: ScopeNo, meaning: Meaning) -> Option<ScopeNo> {
+        let mut found = None;
+        if meaning.value {
+            found = earlier(found, self.values.other(scope));
+        }
+        if meaning.is_type {
+            found = earlier(found, self.types.other(scope));
+        }
+        if meaning.namespace {
+            found = earlier(found, self.namespaces.other(scope));
+        }
+        found
+    }
+}
+
+// What the blocks of a namespace or an enum show to one another.
+type Group = BTreeMap<Atom, Shown>;
+
+// Adds what a block shows, behind those that joined before it.
+fn add_shown(
+    group: &mut Group,
+    scope: ScopeNo,
+    shown: BTreeMap<Atom, Meaning>,
+) -> Result<(), AllocError> {
+    for (name, meaning) in shown {
+        let before = match group.get(&name) {
+            Some(before) => *before,
+            None => NOT_SHOWN,
+        };
+        let _ = group.insert(name, before.with(scope, meaning))?;
+    }
+    Ok(())
 }
 
 /// The number of a namespace or an enum that is written in several blocks.
@@ -75,7 +180,7 @@ pub struct Scopes {
     pub alloc: Global,
     pub lacks: bool,
     scopes: Vec<Scope>,
-    groups: Vec<Vec<ScopeNo>>,
+    groups: Vec<Group>,
 }
 
 fn holds(names: &BTreeMap<Atom, Meaning>, name: &Atom, meaning: Meaning) -> bool {
@@ -156,21 +261,23 @@ impl Scopes {
 
     pub fn group(&mut self) -> GroupNo {
         let no = GroupNo(self.groups.len());
-        if self.groups.push(Vec::new(self.alloc)).is_err() {
+        if self.groups.push(BTreeMap::new(self.alloc)).is_err() {
             self.lacks = true;
         }
         no
     }
 
-    /// Joins the scope of a block with those of a group.
+    /// Joins the scope of a block with those of a group, which joined before. What the block shows is known by then.
     pub fn join(&mut self, group: GroupNo, scope: ScopeNo) {
+        let mut shown: BTreeMap<Atom, Meaning> = BTreeMap::new(self.alloc);
+        if let Some(found) = self.scopes.get_mut(scope.0) {
+            std::mem::swap(&mut shown, &mut found.shown);
+            found.joined = Some(group);
+        }
         if let Some(found) = self.groups.get_mut(group.0)
-            && found.push(scope).is_err()
+            && add_shown(found, scope, shown).is_err()
         {
             self.lacks = true;
-        }
-        if let Some(found) = self.scopes.get_mut(scope.0) {
-            found.joined = Some(group);
         }
     }
 
@@ -181,12 +288,7 @@ impl Scopes {
             return Some(scope);
         }
         let group = found.joined?;
-        for other in self.groups.get(group.0)?.as_slice() {
-            if *other != scope && holds(&self.scopes.get(other.0)?.shown, name, meaning) {
-                return Some(*other);
-            }
-        }
-        None
+        self.groups.get(group.0)?.get(name)?.other(scope, meaning)
     }
 
     /// The number that a name has that is looked up from a scope on: 1 where nothing binds it.

@@ -2,10 +2,12 @@
 ghost use Rattle.fast_check_source_grammar.specs.Nests.{Nests};
 
 use crate::statements::{Opening, Statements, is_await_using, is_using};
-use fast_check_source_grammar::{Cursor, Note, Rule, Tokens, Within};
+use fast_check_source_grammar::{Cursor, Note, Rule, Tokens, Within, is_reserved};
 use fast_check_source_lexer::{Keyword, TokenKind};
-use fast_check_tree_forms_statements::{DoWhileStmt, ForInStmt, ForOfStmt, ForStmt, WhileStmt};
-use fast_check_tree_syntax::{SourcePos, Tree};
+use fast_check_tree_forms_statements::{
+    DoWhileStmt, ForInStmt, ForOfStmt, ForStmt, VarDecl, VarDeclarator, WhileStmt,
+};
+use fast_check_tree_syntax::{Kind, SourcePos, Tree};
 use std::alloc::Global;
 
 fn set_no_in(tokens: &mut Tokens<'_>, no_in: bool) {
@@ -15,6 +17,28 @@ fn set_no_in(tokens: &mut Tokens<'_>, no_in: bool) {
 
 fn walks(at: Cursor<'_>) -> bool {
     at.is_word(Keyword::Of) || at.is_word(Keyword::In)
+}
+
+// Whether `of a)` follows here, which after `let` is no declaration.
+fn ends_with_of(at: Cursor<'_>) -> bool {
+    let next = at.second();
+    at.is_word(Keyword::Of)
+        && next.is(TokenKind::Name)
+        && !is_reserved(next.word())
+        && next.second().is(TokenKind::RParen)
+}
+
+// Whether one of the variables that are declared has a value.
+fn has_value(declared: &Tree) -> bool {
+    let declared = declared.read();
+    match declared.kind() {
+        Kind::VarDecl => VarDecl::of(declared)
+            .decls
+            .parts()
+            .iter()
+            .any(|decl| !VarDeclarator::of(decl.read()).init.is_absent()),
+        _ => false,
+    }
 }
 
 // What stands first in the head of a `for`.
@@ -61,9 +85,15 @@ impl<F: Fn(Global, &mut Tokens<'_>, usize, Rule) -> Tree> Statements<F> {
         let next = tokens.at.second();
         let declares = match tokens.at.word() {
             Keyword::Var | Keyword::Const => true,
-            Keyword::Let => !walks(next) || next.second().is(TokenKind::Assign),
+            Keyword::Let => !next.is_word(Keyword::In),
             _ => false,
         };
+        if tokens.at.is_word(Keyword::Let) && ends_with_of(next) {
+            return Head {
+                left: tokens.refuse(),
+                declared: false,
+            };
+        }
         if declares {
             return Head {
                 left: self.variables(tokens, opening, false),
@@ -93,7 +123,7 @@ impl<F: Fn(Global, &mut Tokens<'_>, usize, Rule) -> Tree> Statements<F> {
         }
         tokens.expect(TokenKind::LParen);
         let saved = tokens.save();
-        if tokens.at.is(TokenKind::Semicolon) {
+        if tokens.at.is(TokenKind::Semicolon) && !is_await {
             return self.counted(tokens, start, Tree::Absent);
         }
         if tokens.is_noted(Note::Walked) {
@@ -102,10 +132,13 @@ impl<F: Fn(Global, &mut Tokens<'_>, usize, Rule) -> Tree> Statements<F> {
         set_no_in(tokens, true);
         let Head { left, declared } = self.head(tokens);
         set_no_in(tokens, false);
-        if !walks(tokens.at) {
+        if !walks(tokens.at) && !is_await {
             return self.counted(tokens, start, left);
         }
         if declared {
+            if has_value(&left) {
+                return tokens.refuse();
+            }
             return self.walked(tokens, start, left, is_await);
         }
         tokens.note(Note::Walked, saved.at.place());
@@ -129,6 +162,9 @@ impl<F: Fn(Global, &mut Tokens<'_>, usize, Rule) -> Tree> Statements<F> {
     {
         let alloc = self.alloc();
         let is_of = tokens.at.is_word(Keyword::Of);
+        if !is_of && (is_await || !tokens.at.is_word(Keyword::In)) {
+            return tokens.refuse();
+        }
         tokens.at.advance();
         let rule = if is_of {
             Rule::Assigned

@@ -3,7 +3,7 @@ ghost use Rattle.fast_check_source_grammar.specs.Nests.{Nests};
 
 use crate::modifiers::{Modifiers, member_modifiers, method_kind, param_modifiers};
 use crate::statements::Statements;
-use fast_check_source_grammar::{Cursor, Rule, Tokens, ident_name, private_name};
+use fast_check_source_grammar::{Cursor, Rule, Tokens, private_name};
 use fast_check_source_lexer::{Keyword, TokenKind};
 use fast_check_source_types::sees_index;
 use fast_check_source_values::{Marks, enter_function};
@@ -11,7 +11,8 @@ use fast_check_tree_forms_classes::{
     AutoAccessor, ClassMethod, ClassProp, Constructor, Param, PrivateMethod, PrivateProp,
     StaticBlock, TsParamProp,
 };
-use fast_check_tree_syntax::{SourcePos, SyntaxContext, Tree, Word as Form};
+use fast_check_tree_forms_programs::{IdentName, Str};
+use fast_check_tree_syntax::{Kind, SourcePos, SyntaxContext, Tree, Word as Form};
 use std::alloc::Global;
 
 /// What is read of a member before it is known which one it is.
@@ -26,12 +27,28 @@ struct Member {
     optional: bool,
 }
 
+// Whether a key that was read, and the token after it, begin a constructor: the word `constructor`, or a string that means it before a `(`.
+fn is_constructor(key: &Tree, at: Cursor<'_>) -> bool {
+    let key = key.read();
+    match key.kind() {
+        Kind::IdentName => IdentName::of(key).sym == "constructor",
+        Kind::Str => Str::of(key).value == "constructor" && at.is(TokenKind::LParen),
+        _ => false,
+    }
+}
+
 fn is_static_block(at: Cursor<'_>) -> bool {
     at.is_word(Keyword::Static) && at.second().is(TokenKind::LBrace)
 }
 
 const PLAIN: Marks = Marks {
     is_async: false,
+    is_generator: false,
+};
+
+// In a static block `await` names nothing, though it may not be used there.
+const STATIC: Marks = Marks {
+    is_async: true,
     is_generator: false,
 };
 
@@ -144,17 +161,19 @@ impl<F: Fn(Global, &mut Tokens<'_>, usize, Rule) -> Tree> Statements<F> {
         if is_static_block(tokens.at) {
             return self.static_block(tokens);
         }
+        let saved = tokens.save();
+        let is_decorated = tokens.at.is(TokenKind::At);
         let decorators = self.expressions.values.decorators(tokens);
         let marks = member_modifiers(tokens);
         if sees_index(tokens) {
+            if is_decorated || !marks.fit_index() {
+                return tokens.refuse_from(saved);
+            }
             return self
                 .expressions
                 .values
                 .types
                 .index(tokens, start, marks.readonly, marks.is_static);
-        }
-        if tokens.at.is_word(Keyword::Constructor) && tokens.at.second().is(TokenKind::LParen) {
-            return self.constructor(tokens, start, marks);
         }
         let kind = method_kind(tokens);
         let is_generator = tokens.at.eat(TokenKind::Star);
@@ -164,6 +183,12 @@ impl<F: Fn(Global, &mut Tokens<'_>, usize, Rule) -> Tree> Statements<F> {
         } else {
             self.expressions.values.types.prop_name(tokens)
         };
+        if kind == Form::Method && !is_generator && is_constructor(&key, tokens.at) {
+            if is_decorated || !marks.fit_constructor() {
+                return tokens.refuse_from(saved);
+            }
+            return self.constructor(tokens, start, marks, key);
+        }
         let member = Member {
             start,
             decorators,
@@ -172,11 +197,18 @@ impl<F: Fn(Global, &mut Tokens<'_>, usize, Rule) -> Tree> Statements<F> {
             is_private,
             optional: tokens.at.eat(TokenKind::Question),
         };
-        if is_generator
+        let is_method = is_generator
             || kind != Form::Method
             || tokens.at.is(TokenKind::LParen)
-            || tokens.at.is(TokenKind::Less)
-        {
+            || tokens.at.is(TokenKind::Less);
+        let fits = if is_method {
+            marks.fit_method(kind)
+        } else {
+            marks.fit_property(is_private) && !(marks.accessor && member.optional)
+        };
+        if !fits {
+            tokens.refuse_from(saved)
+        } else if is_method {
             self.method(tokens, member, kind, is_generator)
         } else {
             self.field(tokens, member)
@@ -188,7 +220,7 @@ impl<F: Fn(Global, &mut Tokens<'_>, usize, Rule) -> Tree> Statements<F> {
     {
         let start = tokens.at.start();
         tokens.at.advance();
-        let outer = enter_function(tokens, PLAIN);
+        let outer = enter_function(tokens, STATIC);
         let body = self.again(tokens, Rule::Body);
         let _ = tokens.at.enter(outer);
         let span = tokens.at.from(start);
@@ -273,11 +305,17 @@ impl<F: Fn(Global, &mut Tokens<'_>, usize, Rule) -> Tree> Statements<F> {
         }
     }
 
-    fn constructor(&self, tokens: &mut Tokens<'_>, start: SourcePos, marks: Modifiers) -> Tree
+    // A constructor after its key.
+    fn constructor(
+        &self,
+        tokens: &mut Tokens<'_>,
+        start: SourcePos,
+        marks: Modifiers,
+        key: Tree,
+    ) -> Tree
         requires { Nests self.now.expressions.values.types.grammar.depth (F.pre self.now.expressions.values.types.grammar.parse) }
     {
         let alloc = self.alloc();
-        let key = ident_name(alloc, tokens);
         let outer = enter_function(tokens, PLAIN);
         tokens.expect(TokenKind::LParen);
         let params = self.expressions.values.types.grammar.list(
@@ -312,7 +350,11 @@ impl<F: Fn(Global, &mut Tokens<'_>, usize, Rule) -> Tree> Statements<F> {
         let alloc = self.alloc();
         let start = tokens.at.start();
         let decorators = self.expressions.values.decorators(tokens);
+        let saved = tokens.save();
         let marks = param_modifiers(tokens);
+        if !marks.fit_parameter() {
+            return tokens.refuse_from(saved);
+        }
         let param = self.expressions.values.types.param(tokens);
         let span = tokens.at.from(start);
         let made = if marks.declares_property() {

@@ -35,8 +35,11 @@ fn accessible(access: Form, marks: Modifiers) -> Modifiers {
 }
 
 impl Modifiers {
-    // The modifiers with one more, if a word is one.
+    // The modifiers with one more, if a word is one that does not stand among them.
     fn with(self, word: Keyword) -> Option<Modifiers> {
+        if self.holds(word) {
+            return None;
+        }
         match word {
             Keyword::Public => Some(accessible(Form::Public, self)),
             Keyword::Protected => Some(accessible(Form::Protected, self)),
@@ -73,6 +76,54 @@ impl Modifiers {
         }
     }
 
+    // Whether a word stands among the modifiers, or one that excludes it.
+    fn holds(self, word: Keyword) -> bool {
+        match word {
+            Keyword::Public | Keyword::Protected | Keyword::Private => self.access.is_some(),
+            Keyword::Static => self.is_static,
+            Keyword::Abstract => self.is_abstract,
+            Keyword::Override => self.is_override,
+            Keyword::Readonly => self.readonly,
+            Keyword::Declare => self.declare,
+            Keyword::Async => self.is_async,
+            Keyword::Accessor => self.accessor,
+            _ => false,
+        }
+    }
+
+    /// Whether a constructor can have these modifiers.
+    pub fn fit_constructor(self) -> bool {
+        self.fit_parameter() && !self.is_override && !self.readonly
+    }
+
+    /// Whether a parameter of a constructor can have these modifiers.
+    pub fn fit_parameter(self) -> bool {
+        !self.is_static && !self.is_abstract && !self.declare && !self.is_async && !self.accessor
+    }
+
+    /// Whether an index signature of a class can have these modifiers.
+    pub fn fit_index(self) -> bool {
+        self.access.is_none()
+            && !self.is_abstract
+            && !self.is_override
+            && !self.declare
+            && !self.is_async
+            && !self.accessor
+    }
+
+    /// Whether a method, a getter or a setter can have these modifiers.
+    pub fn fit_method(self, kind: Form) -> bool {
+        let waits = self.is_async && kind != Form::Method;
+        !self.readonly && !self.declare && !self.accessor && !waits
+    }
+
+    /// Whether a property can have these modifiers, which may be one with `accessor` or one with a private name.
+    pub fn fit_property(self, is_private: bool) -> bool {
+        let fits_accessor = !self.accessor || !self.readonly && !self.declare;
+        let fits_private = !is_private || !self.is_abstract && !self.declare;
+        !self.is_async && fits_accessor && fits_private
+    }
+
     /// `public`, `protected` or `private`, or nothing.
     pub fn accessibility(self) -> Tree {
         match self.access {
@@ -103,7 +154,7 @@ fn is_before_key(at: Cursor<'_>, may_break: bool) -> bool {
         )
 }
 
-/// The modifiers of a member, which are passed.
+/// The modifiers of a member, which are passed. A word that stands among them already is its key.
 pub fn member_modifiers(tokens: &mut Tokens<'_>) -> Modifiers {
     let mut found = NONE;
     for _turn in 0..tokens.at.left() {
@@ -111,8 +162,7 @@ pub fn member_modifiers(tokens: &mut Tokens<'_>) -> Modifiers {
             break;
         };
         let is_static = tokens.at.is_word(Keyword::Static);
-        // A second `static` is the key.
-        if is_static && found.is_static || !is_before_key(tokens.at, is_static) {
+        if !is_before_key(tokens.at, is_static) {
             break;
         }
         found = more;

@@ -3,7 +3,7 @@ ghost use Rattle.fast_check_source_grammar.specs.Nests.{Nests};
 
 use crate::look_ahead::{can_follow_modifier, sees_accessor, sees_index};
 use crate::types::Types;
-use fast_check_source_grammar::{Rule, Tokens, Trees, literal_key, word};
+use fast_check_source_grammar::{Cursor, Rule, Tokens, Trees, literal_key, word};
 use fast_check_source_lexer::{Keyword, TokenKind};
 use fast_check_tree_forms_classes::TsIndexSignature;
 use fast_check_tree_forms_programs::{BindingIdent, Ident};
@@ -36,19 +36,20 @@ fn is_modifier(word: Keyword) -> bool {
     )
 }
 
-// Passes the modifiers of a member, and says whether `readonly` is one of them.
-fn modifiers(tokens: &mut Tokens<'_>) -> bool {
-    let mut readonly = false;
-    for _turn in 0..tokens.at.left() {
-        if !is_modifier(tokens.at.word()) {
-            break;
-        }
-        let next = tokens.at.second();
-        if next.newline() || !can_follow_modifier(next) {
-            break;
-        }
-        readonly = readonly || tokens.at.is_word(Keyword::Readonly);
+// Whether the next token is a modifier of the member, rather than its key.
+fn sees_modifier(at: Cursor<'_>) -> bool {
+    let next = at.second();
+    is_modifier(at.word()) && !next.newline() && can_follow_modifier(next)
+}
+
+// Passes `readonly` before a member, and returns whether it was there. A member of a type has no other modifier, and has it once.
+fn readonly_modifier(tokens: &mut Tokens<'_>) -> bool {
+    let readonly = tokens.at.is_word(Keyword::Readonly) && sees_modifier(tokens.at);
+    if readonly {
         tokens.at.advance();
+    }
+    if sees_modifier(tokens.at) {
+        let _ = tokens.refuse();
     }
     readonly
 }
@@ -93,11 +94,15 @@ impl<F: Fn(Global, &mut Tokens<'_>, usize, Rule) -> Tree> Types<F> {
             tokens.at.advance();
             return self.construct_signature(tokens, start);
         }
-        let readonly = modifiers(tokens);
+        let modifier = tokens.save();
+        let readonly = readonly_modifier(tokens);
         if sees_index(tokens) {
             return self.index(tokens, start, readonly, false);
         }
         if sees_accessor(tokens.at) {
+            if readonly {
+                return tokens.refuse_from(modifier);
+            }
             let is_getter = tokens.at.is_word(Keyword::Get);
             tokens.at.advance();
             return if is_getter {
@@ -109,6 +114,9 @@ impl<F: Fn(Global, &mut Tokens<'_>, usize, Rule) -> Tree> Types<F> {
         let key = self.key(tokens);
         let optional = tokens.at.eat(TokenKind::Question);
         if opens_signature(tokens.at.kind()) {
+            if readonly {
+                return tokens.refuse_from(modifier);
+            }
             self.method(tokens, start, key, optional)
         } else {
             self.property(tokens, start, key, readonly, optional)
@@ -119,7 +127,7 @@ impl<F: Fn(Global, &mut Tokens<'_>, usize, Rule) -> Tree> Types<F> {
         requires { Nests self.now.grammar.depth (F.pre self.now.grammar.parse) }
     {
         let type_params = self.type_params(tokens);
-        let params = self.params(tokens);
+        let params = self.signature_params(tokens);
         let type_ann = self.result(tokens);
         end_member(tokens);
         let made = TsCallSignatureDecl {
@@ -135,7 +143,7 @@ impl<F: Fn(Global, &mut Tokens<'_>, usize, Rule) -> Tree> Types<F> {
         requires { Nests self.now.grammar.depth (F.pre self.now.grammar.parse) }
     {
         let type_params = self.type_params(tokens);
-        let params = self.params(tokens);
+        let params = self.signature_params(tokens);
         let type_ann = self.result(tokens);
         end_member(tokens);
         let made = TsConstructSignatureDecl {
@@ -233,8 +241,11 @@ impl<F: Fn(Global, &mut Tokens<'_>, usize, Rule) -> Tree> Types<F> {
         requires { Nests self.now.grammar.depth (F.pre self.now.grammar.parse) }
     {
         let Key { key, computed } = self.key(tokens);
-        let params = self.params(tokens);
-        let _ = self.result(tokens);
+        let params = self.signature_params(tokens);
+        // A setter has no result.
+        if tokens.at.is(TokenKind::Colon) {
+            return tokens.refuse();
+        }
         end_member(tokens);
         let made = TsSetterSignature {
             span: tokens.at.from(start),
@@ -250,7 +261,7 @@ impl<F: Fn(Global, &mut Tokens<'_>, usize, Rule) -> Tree> Types<F> {
     {
         let Key { key, computed } = key;
         let type_params = self.type_params(tokens);
-        let params = self.params(tokens);
+        let params = self.signature_params(tokens);
         let type_ann = self.result(tokens);
         end_member(tokens);
         let made = TsMethodSignature {

@@ -3,7 +3,7 @@ ghost use Rattle.fast_check_source_grammar.specs.Nests.{Nests};
 
 use crate::types::Types;
 use fast_check_source_grammar::{
-    Rule, Tokens, binding, ident, ident_name, number, sees_ident, string,
+    Rule, Tokens, Within, binding, ident, ident_name, number, sees_ident, string,
 };
 use fast_check_source_lexer::{Keyword, TokenKind};
 use fast_check_tree_forms_expressions::{
@@ -33,6 +33,20 @@ fn optional_ident(alloc: Global, tokens: &mut Tokens<'_>) -> Tree {
 }
 
 impl<F: Fn(Global, &mut Tokens<'_>, usize, Rule) -> Tree> Types<F> {
+    /// The parameters of a signature or of a function type, among which `await` is a name.
+    pub fn signature_params(&self, tokens: &mut Tokens<'_>) -> Tree
+        requires { Nests self.now.grammar.depth (F.pre self.now.grammar.parse) }
+    {
+        let outer = tokens.at.within();
+        let _ = tokens.at.enter(Within {
+            is_async: false,
+            ..outer
+        });
+        let params = self.params(tokens);
+        let _ = tokens.at.enter(outer);
+        params
+    }
+
     /// `(a, b?: A, ...c)`
     pub fn params(&self, tokens: &mut Tokens<'_>) -> Tree
         requires { Nests self.now.grammar.depth (F.pre self.now.grammar.parse) }

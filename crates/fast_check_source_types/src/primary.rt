@@ -278,6 +278,19 @@ impl<F: Fn(Global, &mut Tokens<'_>, usize, Rule) -> Tree> Types<F> {
         }
     }
 
+    // `, { with: { .. } }` after the path of an import as a type, which no form holds. A comma may end it.
+    fn pass_attributes(&self, tokens: &mut Tokens<'_>)
+        requires { Nests self.now.grammar.depth (F.pre self.now.grammar.parse) }
+    {
+        if tokens.at.eat(TokenKind::Comma) {
+            if !tokens.at.is(TokenKind::LBrace) {
+                let _ = tokens.refuse();
+            }
+            let _ = self.grammar.again(tokens, Rule::Assigned);
+            let _ = tokens.at.eat(TokenKind::Comma);
+        }
+    }
+
     // `import("a").b<c>`
     fn import_type(&self, tokens: &mut Tokens<'_>) -> Tree
         requires { Nests self.now.grammar.depth (F.pre self.now.grammar.parse) }
@@ -286,6 +299,7 @@ impl<F: Fn(Global, &mut Tokens<'_>, usize, Rule) -> Tree> Types<F> {
         tokens.at.advance();
         tokens.expect(TokenKind::LParen);
         let arg = string(self.grammar.alloc, tokens);
+        self.pass_attributes(tokens);
         tokens.expect(TokenKind::RParen);
         let qualifier = if tokens.at.eat(TokenKind::Dot) {
             entity(self.grammar.alloc, tokens)
@@ -313,7 +327,8 @@ impl<F: Fn(Global, &mut Tokens<'_>, usize, Rule) -> Tree> Types<F> {
         } else {
             entity(self.grammar.alloc, tokens)
         };
-        let type_args = if is_import {
+        // After `typeof a` a `<<` shifts.
+        let type_args = if is_import || tokens.at.is(TokenKind::LeftShift) {
             Tree::Absent
         } else {
             self.args_in_line(tokens)

@@ -86,7 +86,7 @@ impl<F: Fn(Global, &mut Tokens<'_>, usize, Rule) -> Tree> Types<F> {
         let is_abstract = tokens.at.eat_word(Keyword::Abstract);
         let is_new = tokens.at.eat_word(Keyword::New);
         let type_params = self.type_params(tokens);
-        let params = self.params(tokens);
+        let params = self.signature_params(tokens);
         let at = tokens.at.start();
         tokens.expect(TokenKind::Arrow);
         let type_ann = self.result_from(tokens, at);

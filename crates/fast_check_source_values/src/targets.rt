@@ -75,6 +75,8 @@ impl<F: Fn(Global, &mut Tokens<'_>, usize, Rule) -> Tree> Values<F> {
         // `a as A` and `<A>a` may be assigned to, which bind as tight as a comparison.
         let expr = self.types.grammar.again(tokens, Rule::Operand(8));
         if is_shape(&expr) {
+            // Patterns nest, and the values that they were first read as would all be held.
+            drop(expr);
             tokens.go_back(saved);
             return self.shape(tokens);
         }

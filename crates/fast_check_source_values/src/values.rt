@@ -12,7 +12,7 @@ use fast_check_tree_forms_expressions::{
     ThisExpr, Tpl,
 };
 use fast_check_tree_forms_programs::Null;
-use fast_check_tree_syntax::{Atom, SourcePos, SyntaxContext, Tree};
+use fast_check_tree_syntax::{Atom, Kind, SourcePos, SyntaxContext, Tree};
 use std::alloc::Global;
 
 /// The rules of values without operators.
@@ -72,6 +72,20 @@ fn null(alloc: Global, tokens: &mut Tokens<'_>) -> Tree {
     let span = tokens.at.here();
     tokens.at.advance();
     tokens.made(Null { span }.into_tree(alloc))
+}
+
+// The callee of `new` and its type arguments, of a value that ends with them or has none.
+fn callee_of(value: Tree) -> (Tree, Tree) {
+    match value {
+        Tree::Node(Kind::TsInstantiation, mut parts) => {
+            let type_args = parts.pop();
+            match (parts.pop(), type_args) {
+                (Some(callee), Some(type_args)) => (callee, type_args),
+                _ => (Tree::Absent, Tree::Absent),
+            }
+        }
+        callee => (callee, Tree::Absent),
+    }
 }
 
 impl<F: Fn(Global, &mut Tokens<'_>, usize, Rule) -> Tree> Values<F> {
@@ -196,11 +210,7 @@ impl<F: Fn(Global, &mut Tokens<'_>, usize, Rule) -> Tree> Values<F> {
             }
             return tokens.refuse();
         }
-        let callee = self.types.grammar.again(tokens, Rule::Constructed);
-        let type_args = match self.value_args(tokens) {
-            Some(args) => args,
-            None => Tree::Absent,
-        };
+        let (callee, type_args) = callee_of(self.types.grammar.again(tokens, Rule::Constructed));
         let args = if tokens.at.eat(TokenKind::LParen) {
             self.types.grammar.list(tokens, Rule::Argument, TokenKind::Comma, TokenKind::RParen)
         } else {

@@ -23,7 +23,7 @@ const { Lines } = require('../tree/lines.js');
 /** @typedef {{ text: string, start: number, is_effect: boolean, target: string | null }} Lead a text by which a module names another one */
 /** @typedef {{ path: string, leads: Lead[], names_return: boolean }} ReadFile */
 /** @typedef {{ folder: string, entries: { key: string, path: string }[], taken: { written: string, path: string }[] }} Entries */
-/** @typedef {{ errors: Said[], faults: Said[], warnings: Said[], packages: Entries[], files: ReadFile[] }} Told what the program says of a folder beside its answers */
+/** @typedef {{ errors: Said[], faults: Said[], warnings: Said[], packages: Entries[], files: ReadFile[], same: [first: string, others: string[]][] }} Told what the program says of a folder beside its answers */
 
 const FILE = 'file:///';
 // What the compiler reads as a fault and the program does not: a parameter with a question mark and a value.
@@ -36,7 +36,7 @@ function parted(/** @type {string} */ line, /** @type {string} */ head) {
   const end = line.indexOf(REST);
   /** @type {Told | null} */
   const told = line.startsWith(head) && end >= 0 ? JSON.parse(`{${line.slice(end + 1)}`) : null;
-  if (!told || !told.packages || !told.files) throw new ProgramError('the program did not answer: it is of another version, and writes other lines', 5);
+  if (!told || !told.packages || !told.files || !told.same) throw new ProgramError('the program did not answer: it is of another version, and writes other lines', 5);
   return { text: line.slice(head.length, end), told };
 }
 
@@ -230,6 +230,21 @@ function requestOf(/** @type {import('../package/types').Resolution[]} */ resolu
 }
 
 /**
+ * The answers of a line, with those of the entry points that are answered as another one: a package's diagnostics are written once.
+ *
+ * @returns {Answer[]}
+ */
+function allAnswers(/** @type {string} */ text, /** @type {Told} */ { same }) {
+  const answers = answersOf(text);
+  const found = new Map(answers);
+  for (const [first, others] of same) {
+    const answer = found.get(first);
+    if (answer) for (const other of others) answers.push([other, answer]);
+  }
+  return answers;
+}
+
+/**
  * What the program answers of a folder, and what is known of it besides. Where something is wrong with its configurations, its imports or its syntax, `info` is null: the
  * compiler says it by its own words, and `told` has what the program says.
  *
@@ -246,7 +261,7 @@ async function readBySource(program, dir, options, context) {
   const folder = reading(() => new Folder(dir, told, options));
   if (context.beside) context.beside(folder.root, begun);
   const isRead = !folder.needsWords && !hasPassedOver(folder, options);
-  return { answers: answersOf(text), told, info: isRead ? folder.info : null, request: requestOf(folder.resolutions) };
+  return { answers: allAnswers(text, told), told, info: isRead ? folder.info : null, request: requestOf(folder.resolutions) };
 }
 
 /** Whether a module of a request is nested too deep for the program that is asked. */

@@ -245,16 +245,28 @@ function constructorParam(/** @type {Converter} */ c, /** @type {ts.ParameterDec
   };
 }
 
+/**
+ * The key of a constructor: the word, or a string that means it. The compiler's node has none.
+ *
+ * @returns {forms.PropName}
+ */
+function constructorKey(/** @type {Converter} */ c, /** @type {ts.ConstructorDeclaration} */ node) {
+  const start = c.after(keywordStart(node));
+  const quote = c.text[start];
+  if (quote !== '"' && quote !== "'") return { Ident: { span: c.range(start, start + 'constructor'.length), sym: 'constructor' } };
+  const end = c.text.indexOf(quote, start + 1) + 1;
+  return { Str: { span: c.range(start, end), value: 'constructor', raw: c.text.slice(start, end) } };
+}
+
 /** @returns {forms.ClassMember} */
 function constructor(/** @type {Converter} */ c, /** @type {ts.ConstructorDeclaration} */ node) {
-  const start = c.after(keywordStart(node));
   return c.within((scope) => {
     for (const it of node.parameters) patterns.bindParameter(scope, it);
     return {
       Constructor: form({
         span: c.span(node),
         ctxt: c.numberOf(scope),
-        key: { Ident: { span: c.range(start, start + 'constructor'.length), sym: 'constructor' } },
+        key: constructorKey(c, node),
         params: node.parameters.map((it) => constructorParam(c, it)),
         body: constructorBody(c, node),
         accessibility: accessibility(c, node),

@@ -1,0 +1,2 @@
+declare const sheet: { name: string };
+export default sheet;

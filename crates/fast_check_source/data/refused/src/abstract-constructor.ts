@@ -1,0 +1,1 @@
+export abstract class A { abstract constructor(); }

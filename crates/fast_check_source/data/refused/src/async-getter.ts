@@ -1,0 +1,1 @@
+export class A { async get a(): number { return 1; } }

@@ -1,0 +1,2 @@
+export const a: number = 1;
+/*x/

@@ -1,0 +1,1 @@
+export class A { declare get a(): number { return 1; } }

@@ -1,0 +1,2 @@
+declare const dec: any;
+export class A { @dec constructor() {} }

@@ -1,0 +1,1 @@
+export function f(b: number[]): void { for (let of b) b; }

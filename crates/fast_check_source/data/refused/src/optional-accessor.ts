@@ -1,0 +1,1 @@
+export class A { accessor a?: number; }

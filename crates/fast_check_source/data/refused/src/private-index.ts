@@ -1,0 +1,1 @@
+export class A { private [key: string]: number; }

@@ -1,0 +1,1 @@
+export interface A { public m(): void; }

@@ -1,0 +1,1 @@
+export class A { public private a: number = 1; }

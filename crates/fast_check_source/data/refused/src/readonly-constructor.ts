@@ -1,0 +1,1 @@
+export class A { readonly constructor() {} }

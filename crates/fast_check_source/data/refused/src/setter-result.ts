@@ -1,0 +1,1 @@
+export interface A { set a(value: number): string; }

@@ -1,0 +1,1 @@
+export interface A { static [key: string]: number; }

@@ -1,0 +1,2 @@
+export class A extends B { override override m(): void {} }
+declare class B { m(): void; }

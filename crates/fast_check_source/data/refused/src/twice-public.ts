@@ -1,0 +1,1 @@
+export class A { public public a: number = 1; }
