@@ -141,7 +141,14 @@ def implemented(header):
     if "for" not in words:
         return (without_arguments(words)[0] or [""])[-1]
     place = words.index("for")
-    return (without_arguments(words[place + 1 :])[0] or [""])[-1] + without_arguments(words[:place])[1]
+    return (without_arguments(words[place + 1 :])[0] or [""])[-1] + without_arguments(without_path(words[:place]))[1]
+
+
+def without_path(words):
+    """The words of a trait without the path before its name: `Display` of `fmt::Display`."""
+    head = words[: words.index("<")] if "<" in words else words
+    colons = [place for place, word in enumerate(head) if word == ":"]
+    return words[colons[-1] + 1 :] if colons else words
 
 
 def functions(text, module):

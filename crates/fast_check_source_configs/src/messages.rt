@@ -1,4 +1,6 @@
 //! What is said of the files of a folder.
+ghost use Rattle.std.specs.Prelude.{◌≡◌, ◌++◌, ◌∷◌, [], IfOk, IsFalse, IsOk, IsTrue};
+
 use fast_check_source_files::messages::Message;
 use std::alloc::{AllocError, Global};
 
@@ -21,8 +23,12 @@ impl MessageList {
         self.items.is_empty()
     }
 
-    /// Adds a message, if it was made.
-    pub fn push(&mut self, made: Result<Message, AllocError>) {
+    /// Adds a message, if it was made: it stands last, or the list notes that memory ran out.
+    pub fn push(&mut self, made: Result<Message, AllocError>)
+        ensures added { IsFalse self.new.lacks → IsOk made }
+        ensures last { IfOk made (λ message. IsFalse self.new.lacks → self.new.items.items ≡ self.old.items.items ++ message ∷ []) }
+        ensures noted { IsTrue self.old.lacks → IsTrue self.new.lacks }
+    {
         match made {
             Ok(message) => if self.items.push(message).is_err() {
                 self.lacks = true;
@@ -31,8 +37,12 @@ impl MessageList {
         }
     }
 
-    /// Takes all from another list.
-    pub fn append(&mut self, from: &mut MessageList) {
+    /// Takes all from another list: they stand last, in order, or the list notes that memory ran out.
+    pub fn append(&mut self, from: &mut MessageList)
+        ensures last { IsFalse self.new.lacks → self.new.items.items ≡ self.old.items.items ++ from.old.items.items }
+        ensures noted { IsTrue self.old.lacks → IsTrue self.new.lacks }
+        ensures also { IsTrue from.old.lacks → IsTrue self.new.lacks }
+    {
         self.lacks |= from.lacks;
         if self.items.append(&mut from.items).is_err() {
             self.lacks = true;
