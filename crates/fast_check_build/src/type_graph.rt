@@ -131,13 +131,14 @@ pub fn build_packages(
         root_symbol,
         options,
     };
+    let members = options.workspace_members.as_slice();
     let ranges = find_public_ranges(
         alloc,
         None,
         jsr_url_provider,
         graph,
         root_symbol,
-        options.workspace_members.as_slice(),
+        members,
         pending_nvs,
     )?;
     // The map is in order.

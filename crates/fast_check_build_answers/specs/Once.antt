@@ -2,7 +2,7 @@
 use Rattle.std.specs.Prelude.{◌≡◌, ◌≢◌, Bool, List, []}
 use Rattle.std.specs.List.{AllZip}
 use Rattle.url.specs.Parts.{Parts}
-use Rattle.fast_check_tables_packages.specs.declared.made.PackageNv.{PackageNv}
+use Rattle.fast_check_tables_packages.specs.declared.package.PackageNv.{PackageNv}
 use Rattle.fast_check_tables_modules.specs.diagnostics.declared.diagnostics.FastCheckDiagnostic.{FastCheckDiagnostic}
 use Rattle.fast_check_tables_graph.specs.declared.graph.ModuleGraph.{ModuleGraph}
 use Rattle.fast_check_tables_graph.specs.declared.root_symbol.RootSymbol.{RootSymbol}

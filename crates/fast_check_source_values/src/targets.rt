@@ -2,8 +2,8 @@
 ghost use Rattle.fast_check_source_grammar.specs.Nests.{Nests};
 
 use crate::values::Values;
-use fast_check_source_grammar::{Rule, Tokens, ident};
-use fast_check_source_lexer::TokenKind;
+use fast_check_source_grammar::{Cursor, Rule, Tokens, ident};
+use fast_check_source_lexer::{Keyword, TokenKind};
 use fast_check_tree_forms_expressions::{
     ArrayPat, AssignPat, AssignPatProp, KeyValuePatProp, ObjectPat, PatExpr, RestPat, TargetPat,
 };
@@ -23,6 +23,19 @@ fn is_ident(tree: &Tree) -> bool {
     match tree {
         Tree::Node(kind, _) => *kind == Kind::Ident,
         _ => false,
+    }
+}
+
+// Whether what was read so far is a whole target: a value, another target or the end of the pattern follows.
+fn ends_target(at: Cursor<'_>) -> bool {
+    match at.kind() {
+        TokenKind::Assign
+        | TokenKind::Comma
+        | TokenKind::RBrace
+        | TokenKind::RBracket
+        | TokenKind::RParen
+        | TokenKind::End => true,
+        _ => at.is_word(Keyword::Of) || at.is_word(Keyword::In),
     }
 }
 
@@ -66,19 +79,43 @@ impl<F: Fn(Global, &mut Tokens<'_>, usize, Rule) -> Tree> Values<F> {
         tokens.made(made.into_tree(alloc))
     }
 
-    /// What is assigned to: a pattern, a name or another value.
+    // A nested pattern, or nothing where what begins here goes on as another value, or is no pattern at all.
+    fn nested_shape(&self, tokens: &mut Tokens<'_>) -> Option<Tree>
+        requires { Nests self.now.types.grammar.depth (F.pre self.now.types.grammar.parse) }
+    {
+        if !tokens.at.is(TokenKind::LBracket) && !tokens.at.is(TokenKind::LBrace) {
+            return None;
+        }
+        let found = self.shape(tokens);
+        if tokens.is_stopped() || !ends_target(tokens.at) {
+            None
+        } else {
+            Some(found)
+        }
+    }
+
+    /// What is assigned to: a pattern, a name or another value. A pattern is read as one at once: if each level were read as a value first, the innermost one
+    /// would be read as often as patterns nest.
     pub fn target(&self, tokens: &mut Tokens<'_>) -> Tree
         requires { Nests self.now.types.grammar.depth (F.pre self.now.types.grammar.parse) }
     {
         let alloc = self.types.grammar.alloc;
         let saved = tokens.save();
+        if let Some(found) = self.nested_shape(tokens) {
+            return found;
+        }
+        let fault = tokens.fault();
+        tokens.go_back(saved);
         // `a as A` and `<A>a` may be assigned to, which bind as tight as a comparison.
         let expr = self.types.grammar.again(tokens, Rule::Operand(8));
         if is_shape(&expr) {
-            // Patterns nest, and the values that they were first read as would all be held.
-            drop(expr);
-            tokens.go_back(saved);
-            return self.shape(tokens);
+            match fault {
+                Some(fault) => tokens.stop(fault),
+                None => {
+                    let _ = tokens.refuse();
+                }
+            }
+            return Tree::Absent;
         }
         if is_ident(&expr) {
             let made = BindingIdent {
