@@ -28,6 +28,12 @@ function bySpecifier(answers) {
   return Object.fromEntries(answers.map(([specifier, answer]) => [specifier, plain(answer)]));
 }
 
+/** The answers of a line of the program, with those of the entry points that are answered as another one. */
+function writtenOut({ answers, same }) {
+  const others = new Map(same);
+  return answers.flatMap(([specifier, answer]) => [specifier, ...others.get(specifier) || []].map((it) => [it, answer]));
+}
+
 /** The modules of a request, as far as their answers need. */
 function modulesOf({ modules }) {
   return modules.map(([specifier, { Esm: it }]) => ({ specifier, parts: it && { marks: { isMarked: isMarked(JSON.stringify(it.source)) } } }));
@@ -78,7 +84,7 @@ async function compare(fastCheck, folder, mine) {
     return errors.length || mine.status === 2 ? said('both refuse') : said('mine alone reads', why);
   }
   if (!mine.line) return said('no answer', `${mine.status} ${mine.signal} ${mine.stderr.slice(0, 200)}`);
-  const { answers, input: asked, errors } = JSON.parse(mine.line);
+  const { answers, same, input: asked, errors } = JSON.parse(mine.line);
   if (errors.length && status === 0) return said('mine alone refuses', show(errors));
   if (asked) {
     const { equal, differ, places } = compareInputs(asked, JSON.parse(input));
@@ -86,7 +92,7 @@ async function compare(fastCheck, folder, mine) {
   }
   const wanted = answersOf(fastCheck, input);
   if (wanted === null) return said('the program answers nothing');
-  const lines = differences(answers, wanted);
+  const lines = differences(writtenOut({ answers, same }), wanted);
   return { ...said(lines.length ? 'differs' : 'equal', ...lines), equal: wanted.length - lines.length, differ: lines.length };
 }
 

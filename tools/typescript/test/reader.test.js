@@ -51,7 +51,7 @@ test('input --reader source', async () => {
   same(modules.map((/** @type {[string, unknown]} */ [specifier]) => specifier).join(' '), 'file:///src/index.ts file:///src/shapes.ts');
   same(pending.length, 1, 'how many packages are handed in');
 });
-const REFUSED = '{"answers":[],"errors":[{"path":"mod.ts","line":1,"column":8,"code":"syntax-error","message":"this cannot stand here"}],"faults":[],"warnings":[],"packages":[],"files":[]}';
+const REFUSED = '{"answers":[],"errors":[{"path":"mod.ts","line":1,"column":8,"code":"syntax-error","message":"this cannot stand here"}],"faults":[],"warnings":[],"packages":[],"files":[],"same":[]}';
 test('what the program refuses the compiler reads', async () => {
   const { status, out } = await runThere(['check', '--reader', 'source', 'other'], `echo '${REFUSED}'; exit 2`);
   same(status, 1, 'the status');
@@ -203,10 +203,16 @@ function builtOf(/** @type {import('../src/program/types').Request} */ input, /*
   return stdout ? restored(JSON.parse(stdout), input, /** @type {import('../src/package/types').Module[]} */ (modules)) : stderr;
 }
 
+/** The answers of a line of the program, with those of the entry points that are answered as another one, in the order of the specifiers of a package. */
+function writtenOut(/** @type {{ answers: import('../src/program/types').Answer[], same: [string, string[]][] }} */ { answers, same }) {
+  const others = new Map(same);
+  return answers.flatMap(([specifier, answer]) => [specifier, ...others.get(specifier) || []].map((it) => [it, answer]));
+}
+
 test('build answers to the input what the program answers', { skip }, () => withFolder((folder) => {
   const names = STORED.filter((it) => it !== 'deep');
   for (const [at, { line, input }] of linesAndInputs(names.map((it) => path.join(PACKAGES, it))).entries()) {
-    assert.deepStrictEqual(builtOf(input, path.join(folder, 'input.json')), line.answers, names[at]);
+    assert.deepStrictEqual(builtOf(input, path.join(folder, 'input.json')), writtenOut(line), names[at]);
   }
 }));
 
