@@ -18,7 +18,7 @@ turned : (graph : ModuleGraph) (root : RootSymbol) (first : Bool) (ps : List (Pa
 turned graph root first ps p left rest all done answers made e step h k is = (
   append_assoc ps (p ∷ []) rest ∙ (sym (ap (λ (es : List (PackageNv × PackagePublicRanges)). ps ++ es) step) ∙ e),
   subst (AreAnsweredOnce graph root first (ps ++ p ∷ [])) (sym is)
-  (all_zipped_more (λ (q : PackageNv × PackagePublicRanges) (made : PackageAnswer). IsAnsweredOnce graph root first q.1 made) ps done p made h k),
+      (all_zipped_more (λ (q : PackageNv × PackagePublicRanges) (made : PackageAnswer). IsAnsweredOnce graph root first q.1 made) ps done p made h k),
 )
 
 pub answer_once-requires : goal.answer_once-requires
