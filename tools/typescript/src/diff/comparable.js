@@ -59,6 +59,29 @@ function methodType(/** @type {(ts.MethodDeclaration | ts.MethodSignature)[]} */
   return factory.createTypeLiteralNode(overloads.map((it) => factory.createCallSignature(it.typeParameters, it.parameters, it.type || ANY)));
 }
 
+const VOID = factory.createKeywordTypeNode(K.VoidKeyword);
+
+/**
+ * The constructors and setters of a class as properties, whose parameters the compiler compares strictly too.
+ *
+ * @returns {ts.PropertySignature[]}
+ */
+function writersOf(/** @type {ts.ClassDeclaration} */ node) {
+  const constructors = node.members.filter(ts.isConstructorDeclaration).filter((it) => !hasModifier(it, K.PrivateKeyword) && !hasModifier(it, K.ProtectedKeyword));
+  const setters = node.members.filter(ts.isSetAccessorDeclaration).filter((it) => !isPrivate(it) && !hasModifier(it, K.StaticKeyword));
+  const made = constructors.map((it) => factory.createCallSignature(undefined, it.parameters.map(plainParameter), VOID));
+  const type = made.length === 1 ? factory.createFunctionTypeNode(undefined, made[0].parameters, VOID) : factory.createTypeLiteralNode(made);
+  return [
+    ...(made.length ? [factory.createPropertySignature(undefined, factory.createStringLiteral('new()'), undefined, type)] : []),
+    ...setters.map((it) => factory.createPropertySignature(undefined, factory.createStringLiteral(`set ${it.name.getText()}`), undefined, factory.createFunctionTypeNode(undefined, it.parameters, VOID))),
+  ];
+}
+
+/** A parameter without what makes a property of it. */
+function plainParameter(/** @type {ts.ParameterDeclaration} */ { dotDotDotToken, name, questionToken, type }) {
+  return factory.createParameterDeclaration(undefined, dotDotDotToken, name, questionToken, type);
+}
+
 /** The methods of a class, an interface or an object type as properties of their own types. */
 function methodsOf(/** @type {ts.ClassDeclaration | ts.InterfaceDeclaration | ts.TypeLiteralNode} */ node) {
   /** @type {Map<string, (ts.MethodDeclaration | ts.MethodSignature)[]>} */
@@ -68,7 +91,8 @@ function methodsOf(/** @type {ts.ClassDeclaration | ts.InterfaceDeclaration | ts
     const name = it.name.getText();
     overloads.set(name, [...(overloads.get(name) || []), it]);
   }
-  return [...overloads.values()].map((all) => factory.createPropertySignature(undefined, all[0].name, all[0].questionToken, methodType(all)));
+  const methods = [...overloads.values()].map((all) => factory.createPropertySignature(undefined, all[0].name, all[0].questionToken, methodType(all)));
+  return ts.isClassDeclaration(node) ? [...methods, ...writersOf(node)] : methods;
 }
 
 /** The interface that has the methods of a declaration strictly, under its name and `STRICT`; null where none is. */

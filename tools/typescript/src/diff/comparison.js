@@ -98,7 +98,9 @@ async function advised(/** @type {Version} */ before, /** @type {Version} */ aft
   };
   /** @type {(changed: (typeof both)[0]) => Advised} */
   const adviceFor = ({ old, now, pairs }) => {
-    const all = pairs.map((pair) => ofPair(old, now, pair));
+    if (now.isTypeOnly && !old.isTypeOnly) return { advice: 'major', reason: 'it is exported as a type only' };
+    const more = old.isTypeOnly && !now.isTypeOnly ? [{ advice: /** @type {const} */ ('minor'), reason: null }] : [];
+    const all = [...pairs.map((pair) => ofPair(old, now, pair)), ...more];
     const advice = highest(all.map((each) => each.advice));
     // Where its own text and those of the same names are the same, an import has another meaning, or names the same module otherwise.
     const otherwise = leadsElsewhere(old, now) ? { ...another, reason: 'it leads to another declaration' } : { ...another, advice: /** @type {const} */ ('patch'), reason: null };

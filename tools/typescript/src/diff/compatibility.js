@@ -7,6 +7,7 @@ const { STRICT, comparable } = require('./comparable.js');
 const { Externals, importsOf, mentionedIn } = require('./externals.js');
 const { declarationName, emitted, programOf, resolverOf } = require('../verify/surface.js');
 const { Narrowing, abstraction } = require('./narrowing.js');
+const { byRules } = require('./rules.js');
 const { hasModifier } = require('../compiler/modifiers.js');
 const { whole: ts } = require('../compiler/typescript.js');
 
@@ -44,8 +45,12 @@ class Version {
     this.resolveMade = resolverOf(world, made);
     this.paths = new Map([...made.keys()].map((name) => [this.at(name), name]));
     this.texts = new Map([...made].map(([name, text]) => [this.at(name), name.endsWith('.json') ? text : comparable(name, text)]));
+    // As they were made, with private and protected members.
+    this.whole = new Map([...made].map(([name, text]) => [this.at(name), text]));
     /** @type {Map<string, Declarations>} */
     this.parsed = new Map();
+    /** @type {Map<string, Declarations>} */
+    this.parsedWhole = new Map();
   }
 
   at(/** @type {string} */ file) {
@@ -64,12 +69,21 @@ class Version {
    * @returns {Declarations | undefined}
    */
   module(/** @type {string} */ specifier) {
+    return this.parsedOf(specifier, this.texts, this.parsed);
+  }
+
+  /** The same as it was made, with private and protected members. */
+  wholeModule(/** @type {string} */ specifier) {
+    return this.parsedOf(specifier, this.whole, this.parsedWhole);
+  }
+
+  parsedOf(/** @type {string} */ specifier, /** @type {Map<string, string>} */ texts, /** @type {Map<string, Declarations>} */ parsed) {
     const file = this.world.files.get(specifier);
     const name = file ? this.at(declarationName(file.path)) : '';
-    const text = this.texts.get(name);
+    const text = texts.get(name);
     if (text === undefined) return undefined;
-    const known = this.parsed.get(name) || new Declarations(parse(name, text));
-    this.parsed.set(name, known);
+    const known = parsed.get(name) || new Declarations(parse(name, text));
+    parsed.set(name, known);
     return known;
   }
 }
@@ -164,6 +178,9 @@ class Pair {
     this.nodes = [];
     /** @type {string[]} */
     this.breaks = [];
+    // What breaks users though the compiler takes one declaration for the other.
+    /** @type {string[]} */
+    this.ruled = [];
     this.isAddition = false;
     // Questions of which a no is a break, and those of which it is an addition.
     /** @type {number[]} */
@@ -178,7 +195,7 @@ class Pair {
    * @returns {import('./types').Advised}
    */
   advice(/** @type {(string | null)[]} */ answers) {
-    const [reason] = [...this.breaks, ...this.needed.flatMap((it) => answers[it] || [])];
+    const [reason] = [...this.breaks, ...this.needed.flatMap((it) => answers[it] || []), ...this.ruled];
     if (reason) return { advice: 'major', reason };
     return { advice: this.isAddition || this.sameness.some((it) => answers[it]) ? 'minor' : 'patch', reason: null };
   }
@@ -236,6 +253,7 @@ class Comparison {
       return;
     }
     Object.assign(pair, { file: before.file.fileName, name: names[0], nodes });
+    this.rule(pair, old.specifier, now.specifier, names);
     const strict = after.declared.get(names[1] + STRICT) || [];
     // In a declaration with other type parameters its own name has these too.
     const isOther = writtenParameters(nodes[0]) !== writtenParameters(nodes[1]);
@@ -244,6 +262,15 @@ class Comparison {
     const foreign = this.bind(pair, before, after, [...nodes[1], ...strict]);
     if (foreign) pair.breaks.push(`${foreign} is another declaration`);
     for (const text of texts) this.add(pair.file, text);
+  }
+
+  /** Looks for what the compiler does not see. */
+  rule(/** @type {Pair} */ pair, /** @type {string} */ old, /** @type {string} */ now, /** @type {string[]} */ names) {
+    const [before, after] = [this.versions[0].wholeModule(old), this.versions[1].wholeModule(now)].map((it, at) => (it && it.declared.get(names[at])) || []);
+    if (!before.length || !after.length) return;
+    const { breaks, isAddition } = byRules(before, after, names[0]);
+    pair.ruled.push(...breaks);
+    pair.isAddition = pair.isAddition || isAddition;
   }
 
   /**
@@ -315,7 +342,7 @@ class Comparison {
       else if (!(old.flags & flag) && now.flags & flag) pair.isAddition = true;
     }
     const has = (/** @type {ts.SymbolFlags} */ flag) => Boolean(old.flags & now.flags & flag);
-    if (has(F.Enum)) this.compareEnums(pair, old, now, shown);
+    if (old.flags & F.Enum && now.flags & F.Enum) this.compareEnums(pair, old, now, shown);
     else {
       if (has(F.Function | F.Class | F.Variable)) this.compareValues(pair, old, now, below, shown);
       if (has(F.Type)) this.compareTypes(pair, old, now, below, shown);
@@ -335,8 +362,9 @@ class Comparison {
     const [before, after] = [old, now].map((it) => new Map((it.declarations || []).flatMap((each) => (ts.isEnumDeclaration(each) ? [...each.members] : [])).map((each) => [each.name.getText(), each.initializer && each.initializer.getText()])));
     for (const [name, value] of before) {
       if (!after.has(name)) pair.breaks.push(`${shown}.${name} is gone`);
-      else if (old.flags & F.ConstEnum && after.get(name) !== value) pair.breaks.push(`${shown}.${name} has another value, which users have in their code`);
+      else if (after.get(name) !== value) pair.breaks.push(`${shown}.${name} has another value`);
     }
+    if (!(old.flags & F.ConstEnum) && now.flags & F.ConstEnum) pair.breaks.push(`${shown} is a const enum now, which is no object`);
     const [added] = [...after.keys()].filter((name) => !before.has(name));
     if (added !== undefined) pair.breaks.push(`${shown}.${added} is a value that users do not know`);
   }
@@ -371,7 +399,11 @@ class Comparison {
     pair.needed.push(ask(`IsUsableAs<${after}, ${before}>`));
     if (!isClass) pair.needed.push(ask(`IsUsableAs<${before}, ${after}>`));
     pair.sameness.push(ask(`IsTrue<IsSame<${before}, ${after}>>`));
-    if (!below.length && this.hasStrict(pair)) pair.needed.push(ask(`IsUsableAs<${pair.name}${STRICT}${NEW}${given}, ${pair.name}${STRICT}${given}>`));
+    if (!below.length && this.hasStrict(pair)) {
+      const strict = [pair.name + STRICT, pair.name + STRICT + NEW].map((it) => it + given);
+      pair.needed.push(ask(`IsUsableAs<${strict[1]}, ${strict[0]}>`));
+      if (isClass) pair.sameness.push(ask(`IsTrue<IsSame<${strict[0]}, ${strict[1]}>>`));
+    }
     const texts = [old, now].map((it) => typeParametersOf(it).map((each) => each.getText()).join());
     if (texts[0] !== texts[1]) pair.isAddition = true;
     const narrower = this.narrowing().of(this.checker.getDeclaredTypeOfSymbol(old), this.checker.getDeclaredTypeOfSymbol(now), shown) || (isClass && abstraction(old, now));

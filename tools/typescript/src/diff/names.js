@@ -148,7 +148,7 @@ function changesOf(/** @type {Names} */ before, /** @type {Names} */ after) {
   const only = (some, others, change) => [...some].filter(([name]) => !others.has(name)).map(([name, { owner, module }]) => ({ name, owner, module, change, parts: [] }));
   const differing = [...after].flatMap(([name, now]) => {
     const old = before.get(name);
-    return old && textsIn(old.closure) !== textsIn(now.closure) ? { name, old, now } : [];
+    return old && (textsIn(old.closure) !== textsIn(now.closure) || old.isTypeOnly !== now.isTypeOnly) ? { name, old, now } : [];
   });
   const isOwn = (/** @type {(typeof differing)[0]} */ { old, now: { target, closure } }) => old.closure.get(target.join('\n')) !== closure.get(target.join('\n'));
   const both = [...differing.filter(isOwn), ...differing.filter((it) => !isOwn(it))];

@@ -48,11 +48,20 @@ class Narrowing {
       const [before, after] = [old, now].map((it) => mostArguments(this.checker.getSignaturesOfType(it, kind)));
       if (before >= 0 && after >= 0 && after < before) return `${kind === ts.SignatureKind.Call ? name : `new ${name}`} takes fewer arguments`;
     }
+    const lost = this.lostIndex(old, now);
+    if (lost) return `${name} has no index signature for ${lost} any more`;
     for (const property of this.checker.getPropertiesOfType(old)) {
       const found = this.ofProperty(property, now, name, depth);
       if (found) return found;
     }
     return null;
+  }
+
+  /** The keys of an index signature that an object type has no more. */
+  lostIndex(/** @type {ts.Type} */ old, /** @type {ts.Type} */ now) {
+    if (!(old.flags & now.flags & ts.TypeFlags.Object)) return null;
+    const [before, after] = [old, now].map((it) => this.checker.getIndexInfosOfType(it).map(({ keyType }) => this.checker.typeToString(keyType)));
+    return before.find((it) => !after.includes(it) && !after.includes('string')) || null;
   }
 
   /** @returns {string | null} */

@@ -75,6 +75,16 @@ class Names {
     this.reexported = [];
     /** @type {string[]} */
     this.all = [];
+    // The names that are exported as types only, the names that are imported so, and the modules whose names are.
+    /** @type {Set<string>} */
+    this.exportedTypes = new Set();
+    /** @type {Set<string>} */
+    this.importedTypes = new Set();
+    /** @type {Set<string>} */
+    this.allTypes = new Set();
+    // The names that are declared as values.
+    /** @type {Set<string>} */
+    this.values = new Set();
     // The number of the module's own scope, which its declarations and imports have.
     /** @type {number | undefined} */
     this.scope = undefined;
@@ -96,17 +106,23 @@ class Names {
 
   add(/** @type {forms.ModuleItem} */ { Stmt: statement, ModuleDecl: it }) {
     const decl = statement ? statement.Decl : it.ExportDecl && it.ExportDecl.decl;
+    const isValue = decl && !['TsInterface', 'TsTypeAlias'].includes(variantOf(decl)[0]);
     for (const each of decl ? bound(decl) : []) {
       this.declare(each.name, each.node, each.span);
+      if (isValue) this.values.add(each.name);
       if (it) this.exported.set(each.name, each.name);
     }
     if (!it) return;
     if (it.Import) this.import(it.Import);
     if (it.ExportNamed) this.exportNamed(it.ExportNamed);
-    if (it.ExportAll) this.all.push(it.ExportAll.src.value);
+    if (it.ExportAll) {
+      this.all.push(it.ExportAll.src.value);
+      if (it.ExportAll.type_only) this.allTypes.add(it.ExportAll.src.value);
+    }
     if (it.ExportDefaultDecl) this.exportDefault(it.ExportDefaultDecl);
     if (it.ExportDefaultExpr) {
       this.declare('default', it.ExportDefaultExpr.expr, it.ExportDefaultExpr.span);
+      this.values.add('default');
       this.exported.set('default', 'default');
     }
     if (it.TsImportEquals) {
@@ -116,18 +132,20 @@ class Names {
     }
   }
 
-  import(/** @type {forms.ImportDecl} */ { specifiers = [], src }) {
+  import(/** @type {forms.ImportDecl} */ { specifiers = [], src, type_only: isTypeOnly }) {
     for (const { Default: single, Namespace: whole, Named: named } of specifiers) {
       const { local } = single || whole || named;
       this.within(local);
+      if (isTypeOnly || (named && named.is_type_only)) this.importedTypes.add(local.sym);
       this.imported.set(local.sym, [src.value, single ? 'default' : named ? (named.imported ? nameOf(named.imported) : local.sym) : null]);
     }
   }
 
-  exportNamed(/** @type {forms.NamedExport} */ { specifiers = [], src }) {
+  exportNamed(/** @type {forms.NamedExport} */ { specifiers = [], src, type_only: isTypeOnly }) {
     for (const { Default: single, Namespace: whole, Named: named } of specifiers) {
       const orig = single ? 'default' : named ? nameOf(named.orig) : null;
       const as = single ? single.exported.sym : whole ? nameOf(whole.name) : nameOf(named.exported || named.orig);
+      if (isTypeOnly || (named && named.is_type_only)) this.exportedTypes.add(as);
       if (src) this.reexported.push([as, src.value, orig]);
       else if (orig !== null) this.exported.set(as, orig);
     }
@@ -138,6 +156,7 @@ class Names {
     const ident = 'id' in node ? node.id : node.ident;
     const name = ident ? ident.sym : 'default';
     this.declare(name, node, span);
+    if (!('TsInterfaceDecl' in decl)) this.values.add(name);
     this.exported.set('default', name);
   }
 }
@@ -176,6 +195,41 @@ class SkeletonModules {
       if (found) return found;
     }
     return null;
+  }
+
+  /**
+   * Whether an export of a module that stands for a value is exported as a type only, somewhere on the way to its declaration.
+   *
+   * @param {string | undefined} specifier
+   * @param {string} name
+   * @returns {boolean}
+   */
+  isTypeOnly(specifier, name) {
+    const target = this.target(specifier, name);
+    const own = target && target[0] !== null ? this.names.get(target[0]) : undefined;
+    const isValue = !own || !target || target[1] === null || own.values.has(target[1]);
+    return isValue && this.passesTypes(specifier, name);
+  }
+
+  /**
+   * @param {string | undefined} specifier
+   * @param {string} name
+   * @returns {boolean}
+   */
+  passesTypes(specifier, name, seen = new Set()) {
+    const key = `${specifier}\n${name}`;
+    const names = specifier === undefined ? undefined : this.names.get(specifier);
+    if (specifier === undefined || !names || seen.has(key)) return false;
+    seen.add(key);
+    if (names.exportedTypes.has(name)) return true;
+    const local = names.exported.get(name);
+    const imported = local === undefined || names.declared.has(local) ? undefined : names.imported.get(local);
+    if (local !== undefined && names.importedTypes.has(local)) return true;
+    const [, text, orig] = imported ? [local, ...imported] : names.reexported.find(([as]) => as === name) || [];
+    if (text !== undefined && orig) return this.passesTypes(this.resolve(specifier, text), orig, seen);
+    if (local !== undefined || text !== undefined) return false;
+    const found = names.all.find((each) => this.target(this.resolve(specifier, each), name));
+    return found !== undefined && (names.allTypes.has(found) || this.passesTypes(this.resolve(specifier, found), name, seen));
   }
 
   /**

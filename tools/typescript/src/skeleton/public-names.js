@@ -78,7 +78,7 @@ class PublicNames {
           const entry = key === '.' ? '' : ` of ${key}`;
           const shown = this.world.info.packages.length > 1 ? `${owner}: ${name}${entry}` : `${name}${entry}`;
           const module = this.file(target[0] === null ? specifier : target[0]);
-          found.set(shown, { owner, at: { specifier, name }, module, target, closure: this.closure(target) });
+          found.set(shown, { owner, at: { specifier, name }, module, target, closure: this.closure(target), isTypeOnly: this.modules.isTypeOnly(specifier, name) });
         }
       }
     }

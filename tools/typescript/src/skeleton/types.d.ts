@@ -26,6 +26,8 @@ export interface PublicName {
   module: string;
   target: Target;
   closure: Map<string, string>;
+  /** Whether it is exported as a type only, and stands for a value. */
+  isTypeOnly: boolean;
 }
 
 /** From where a search comes to a declaration: from another one, or from an entry point that exports it by some names. */
