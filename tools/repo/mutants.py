@@ -3,6 +3,7 @@
 
 usage: mutants.py [CRATE..]            without a name: each crate that has a file in mutants/
        mutants.py --changed [CRATE..]  of these the crates that mutants/TRIED does not have as they are
+       mutants.py --untried            tries nothing, and names these
   --edit NAME       only the edit of this name (may be given several times); then nothing is noted
   --gate            the edits of crates/CRATE/must-fail too
   --jobs N          so many checks at once (1)
@@ -527,6 +528,7 @@ def read_words(argv):
     words = argparse.ArgumentParser(description=__doc__, formatter_class=argparse.RawDescriptionHelpFormatter)
     words.add_argument("crates", nargs="*", metavar="CRATE")
     words.add_argument("--changed", action="store_true")
+    words.add_argument("--untried", action="store_true")
     words.add_argument("--edit", action="append", metavar="NAME")
     words.add_argument("--gate", action="store_true")
     words.add_argument("--jobs", type=int, default=1, metavar="N")
@@ -534,9 +536,19 @@ def read_words(argv):
     return words.parse_args(argv)
 
 
+def tell_untried():
+    """Names the crates whose edits were not all refused on what they are now."""
+    noted, names = tried(), sorted(crates_with_edits())
+    untried = [name for name in names if noted.get(name) != hash_of(name)]
+    print(f"edits of {len(names) - len(untried)} of {len(names)} crates were tried on what is here; untried: {' '.join(untried) or 'none'}")
+    return 0
+
+
 def main(argv):
     """Tries the edits that the words ask for."""
     words = read_words(argv)
+    if words.untried:
+        return tell_untried()
     noted = tried() if words.changed else {}
     os.chdir(TOP)
     # (the kit sets its signals, which the main thread alone may)
