@@ -95,7 +95,7 @@ pub fn world_of(
 /// Which names are asked for: those of a set, or all.
 pub type Asked<'a> = Option<BTreeSet<&'a str>>;
 
-fn is_asked(asked: &Asked<'_>, name: &str) -> bool {
+fn is_asked<'a>(asked: &Asked<'a>, name: &'a str) -> bool {
     match asked {
         Some(names) => names.contains(&name),
         None => true,
@@ -146,7 +146,7 @@ impl World {
     // Adds the names that a module exports itself and that are asked for. `default` is exported again by no other module.
     fn add_own<'a>(
         &'a self,
-        asked: &Asked<'_>,
+        asked: &Asked<'a>,
         place: usize,
         is_other: bool,
         out: &mut BTreeSet<&'a str>,
@@ -180,7 +180,7 @@ impl World {
     }
 
     // The names that the modules of each circle export again for others, the last circle first.
-    fn shown<'a>(&'a self, alloc: Global, asked: &Asked<'_>) -> Result<Shown<'a>, AllocError> {
+    fn shown<'a>(&'a self, alloc: Global, asked: &Asked<'a>) -> Result<Shown<'a>, AllocError> {
         let mut shown = BTreeMap::new(alloc);
         for (circle, members) in self.members(alloc)?.iter().rev() {
             let mut names = BTreeSet::new(alloc);
@@ -206,11 +206,11 @@ impl World {
     }
 
     // The names that a module answers, with the module itself.
-    fn answered(
-        &self,
+    fn answered<'a>(
+        &'a self,
         alloc: Global,
-        asked: &Asked<'_>,
-        shown: &Shown<'_>,
+        asked: &Asked<'a>,
+        shown: &Shown<'a>,
         place: usize,
         url: &Url,
     ) -> Result<Vec<(String, Url)>, AllocError> {
@@ -230,10 +230,10 @@ impl World {
 
     /// The names that each module answers, with the module itself, in the order of the modules. Where names are `asked` for, only these, and only of
     /// modules whose names others export again: no other is looked up.
-    pub fn all_answered(
-        &self,
+    pub fn all_answered<'a>(
+        &'a self,
         alloc: Global,
-        asked: &Asked<'_>,
+        asked: &Asked<'a>,
     ) -> Result<Vec<Vec<(String, Url)>>, AllocError> {
         let shown = self.shown(alloc, asked)?;
         let again = self.exported_again(alloc)?;
