@@ -5,7 +5,7 @@
 //
 // Each FOLDER is a package, of which the sources are taken where it has both sources and declarations. Types that it leaves to inference are written first, in
 // a copy, as the compiler finds them, so that there are skeletons. Of each kind of edit up to ten modules are edited, all at once, in a second copy: the bodies
-// of functions with a written return type, private members, and values behind a written type. The skeletons have to stay byte for byte, and `diff` has to be
+// of functions with a written return type, private members, and values behind a written type, which become longer than a line. The skeletons have to stay byte for byte, and `diff` has to be
 // silent; of a package that still has messages these have to stay, but for their places.
 const fs = require('fs');
 const os = require('os');
@@ -42,8 +42,8 @@ const KINDS = {
     return [edit(node.parameters.pos, node.parameters.pos, node.parameters.length ? 'hiddenEdit: number, ' : 'hiddenEdit: number')];
   },
   'value behind a type'(node, file) {
-    const value = (ts.isVariableDeclaration(node) || ts.isPropertyDeclaration(node)) && node.type && node.initializer;
-    return value ? [edit(value.getStart(file), value.end, '((["an edit"] as unknown) as never)')] : [];
+    const value = (ts.isVariableDeclaration(node) || ts.isPropertyDeclaration(node) || ts.isParameter(node)) && node.type && node.initializer;
+    return value ? [edit(value.getStart(file), value.end, `(([${'"an edit", '.repeat(9)}] as unknown) as never)`)] : [];
   },
 };
 

@@ -278,6 +278,8 @@ cases([...EDITS.map(edit), ...OTHERS.map(other), ...VERSIONS.map(version), ...re
 
 // ---- edits of the stored packages
 
+// A list of arguments that is too long for a line.
+const LONG = '1000000, '.repeat(10);
 const HIDDEN = [
   ['hidden-code', 'helper.ts', 'return a == b;', 'let c = a;\n  return c === b;'],
   ['hidden-code', 'model.ts', 'return { a: 1 };', 'return { a: 2, b: "x" };'],
@@ -293,6 +295,11 @@ const HIDDEN = [
   ['workspace', 'core/mod.ts', 'return 1;', 'return 2;'],
   ['comments', 'mod.ts', '// A note that goes.', '// Another note, which goes too.'],
   ['overloads', 'mod.ts', 'return strict ? null : {};', 'return null;'],
+  ['hidden-widths', 'mod.ts', 'a: number = sum(1)', `a: number = sum(${LONG})`],
+  ['hidden-widths', 'mod.ts', 'function short(point: { x: number } = { x: 1 }', `function short(point: { x: number } = { x: sum(${LONG}) }`],
+  ['hidden-widths', 'mod.ts', 'const arrow = (point: { x: number } = { x: 1 }', `const arrow = (point: { x: number } = { x: sum(${LONG}) }`],
+  ['hidden-widths', 'mod.ts', 'constructor(private point: { x: number } = { x: 1 }', `constructor(private point: { x: number } = { x: sum(${LONG}) }`],
+  ['hidden-widths', 'mod.ts', 'move(point: { x: number } = { x: 1 }', `move(point: { x: number } = { x: sum(${LONG}) }`],
 ];
 /** @type {[name: string, file: string, old: string, now: string, said: string[]][]} */
 const SHOWN = [

@@ -7,8 +7,6 @@ const t = require('./types.js');
 
 /** @typedef {import('./writer.js').Writer} Writer */
 
-/** @typedef {import('./printers').Spanned} Spanned */
-
 const { at, printBy } = t;
 
 // ---- keys and properties
@@ -72,7 +70,7 @@ function property(/** @type {Writer} */ w, /** @type {forms.PropOrSpread} */ cho
 function object(/** @type {Writer} */ w, /** @type {forms.ObjectLit} */ node) {
   const props = node.props || [];
   if (props.length === 0) w.write('{}');
-  else if (t.isWide(w, node) || props.some((it) => w.hasLeading(t.startOf(it)))) t.listed(w, props, '{', '}', true, property);
+  else if (w.isWide((line) => object(line, node)) || t.hasComments(w, props)) t.listed(w, props, '{', '}', true, property);
   else {
     w.write('{ ');
     t.separated(w, props, ', ', property);
@@ -87,8 +85,10 @@ function argument(/** @type {Writer} */ w, /** @type {forms.ExprOrSpread} */ nod
   expression(w, node.expr);
 }
 
-function args(/** @type {Writer} */ w, /** @type {forms.ExprOrSpread[] | null | undefined} */ list, /** @type {Spanned} */ node) {
-  t.listed(w, list || [], '(', ')', t.isWide(w, node) && (list || []).length > 1, argument);
+/** Arguments, each on a line of its own where they are many, and the whole call is wide. */
+function args(/** @type {Writer} */ w, /** @type {forms.ExprOrSpread[] | null | undefined} */ list, /** @type {(line: Writer) => void} */ whole) {
+  const isWide = (list || []).length > 1 && w.isWide(whole);
+  t.listed(w, list || [], '(', ')', isWide, argument);
 }
 
 /** Behind a dot or in brackets; `optional` is what stands before it. */
@@ -124,14 +124,14 @@ function call(/** @type {Writer} */ w, /** @type {forms.CallExpr | forms.OptCall
   callee(w, node.callee);
   w.write(optional);
   t.typeArguments(w, node.type_args);
-  args(w, node.args, node);
+  args(w, node.args, (line) => call(line, node, optional));
 }
 
 function newExpression(/** @type {Writer} */ w, /** @type {forms.NewExpr} */ node) {
   w.write('new ');
   expression(w, node.callee);
   t.typeArguments(w, node.type_args);
-  if (node.args) args(w, node.args, node);
+  if (node.args) args(w, node.args, (line) => newExpression(line, node));
 }
 
 function chain(/** @type {Writer} */ w, /** @type {forms.OptChainExpr} */ node) {
@@ -236,7 +236,7 @@ function tpl(/** @type {Writer} */ w, /** @type {forms.Tpl} */ node) {
 function array(/** @type {Writer} */ w, /** @type {forms.ArrayLit} */ node) {
   const elems = node.elems || [];
   const written = elems.flatMap((it) => it || []);
-  if (t.isWide(w, node) && written.length === elems.length) {
+  if (written.length === elems.length && w.isWide((line) => array(line, node))) {
     t.listed(w, written, '[', ']', true, argument);
     return;
   }

@@ -1,7 +1,7 @@
 'use strict';
 // Prints statements, declarations, classes, imports and exports.
 
-const { spanOf, variantOf } = require('../walk.js');
+const { variantOf } = require('../walk.js');
 const t = require('./types.js');
 const e = require('./expressions.js');
 const { needsList } = require('../../tables/ambient.js');
@@ -13,7 +13,6 @@ const { isFrom } = require('../../compiler/typescript.js');
 const { at, printBy } = t;
 const { expression } = e;
 
-/** @typedef {import('./printers').Spanned} Spanned */
 /** @typedef {import('./printers').Named} Named */
 
 // The word before the attributes of an import, as the compiler at hand reads it.
@@ -73,8 +72,8 @@ function variables(/** @type {Writer} */ w, /** @type {forms.VarDecl | forms.Usi
   const word = 'kind' in node ? node.kind.toLowerCase() : node.is_await ? 'await using' : 'using';
   const decls = node.decls || [];
   w.write(`${'declare' in node && node.declare ? 'declare ' : ''}${word} `);
-  const broken = t.isWide(w, node) && decls.length > 1;
-  if (!broken) {
+  const isBroken = decls.length > 1 && w.isWide((line) => t.separated(line, decls, ', ', declarator));
+  if (!isBroken) {
     t.separated(w, decls, ', ', declarator);
     return;
   }
@@ -118,8 +117,6 @@ function mayBeUnion(choice) {
   if (variant === 'TsParenthesizedType') return mayBeUnion(node.type_ann);
   if (variant === 'TsKeywordType') return node.kind === 'TsBooleanKeyword';
   if (variant === 'TsLitType') return Boolean(node.lit.Tpl);
-  // The program writes names of classes alone.
-  if (variant === 'TsTypeRef' && !node.span[0]) return false;
   return !SINGLE.has(variant) && !(variant === 'TsTypeOperator' && node.op !== 'KeyOf');
 }
 
@@ -334,9 +331,8 @@ function constructor(/** @type {Writer} */ w, /** @type {forms.Constructor} */ n
   w.write(accessibility(node));
   e.propName(w, node.key);
   const params = node.params || [];
-  const spans = params.flatMap((it) => (t.startOf(it) ? spanOf(it) || [] : []));
-  const isWide = !w.isHeld() && spans.length > 2 && spans[spans.length - 1] - spans[0] > 80;
-  t.listed(w, params, '(', ')', isWide || params.some((it) => t.startOf(it) && w.hasLeading(t.startOf(it))), constructorParam, t.afterLast(params));
+  const isWide = params.length > 1 && w.isWide((line) => t.separated(line, params, ', ', constructorParam));
+  t.listed(w, params, '(', ')', isWide || t.hasComments(w, params), constructorParam, t.afterLast(params));
   e.body(w, node.body);
 }
 
@@ -538,8 +534,9 @@ function named(/** @type {Writer} */ w, /** @type {Named} */ node) {
   });
 }
 
-function namedList(/** @type {Writer} */ w, /** @type {Named[]} */ list, /** @type {Spanned} */ node) {
-  if (t.isWide(w, node) || list.some((it) => w.hasLeading(it.span[0]))) t.listed(w, list, '{', '}', true, named);
+/** Names in braces, each on a line of its own where the whole declaration is wide. */
+function namedList(/** @type {Writer} */ w, /** @type {Named[]} */ list, /** @type {boolean} */ isWide) {
+  if (isWide || t.hasComments(w, list)) t.listed(w, list, '{', '}', true, named);
   else {
     w.write('{ ');
     t.separated(w, list, ', ', named);
@@ -548,6 +545,7 @@ function namedList(/** @type {Writer} */ w, /** @type {Named[]} */ list, /** @ty
 }
 
 function importDeclaration(/** @type {Writer} */ w, /** @type {forms.ImportDecl} */ node) {
+  const isWide = w.isWide((line) => importDeclaration(line, node));
   w.write('import ');
   if (node.type_only) w.write('type ');
   if (node.phase === 'defer') w.write('defer ');
@@ -569,13 +567,14 @@ function importDeclaration(/** @type {Writer} */ w, /** @type {forms.ImportDecl}
     }
   }
   const names = list.flatMap((it) => it.Named || []);
-  if (names.length) parts.push(() => namedList(w, names, node));
+  if (names.length) parts.push(() => namedList(w, names, isWide));
   if (list.length === 0) w.write('{}');
   t.separated(w, parts, ', ', (_, part) => part());
   fromSource(w, node);
 }
 
 function exportNamed(/** @type {Writer} */ w, /** @type {forms.NamedExport} */ node) {
+  const isWide = w.isWide((line) => exportNamed(line, node));
   w.write('export ');
   if (node.type_only) w.write('type ');
   const list = node.specifiers || [];
@@ -586,7 +585,7 @@ function exportNamed(/** @type {Writer} */ w, /** @type {forms.NamedExport} */ n
       moduleExportName(w, first.Namespace.name);
     });
   } else if (list.length === 0) w.write('{}');
-  else namedList(w, list.flatMap((it) => it.Named || []), node);
+  else namedList(w, list.flatMap((it) => it.Named || []), isWide);
   fromSource(w, node);
 }
 

@@ -12,9 +12,6 @@ const { spanOf, variantOf } = require('../walk.js');
 /** @type {forms.Span} */
 const NOWHERE = [0, 0];
 
-/** Above this many bytes of source a list stands on lines of its own. */
-const WIDE = 80;
-
 /**
  * Prints what a choice holds by the entry of its variant.
  *
@@ -35,12 +32,6 @@ function at(/** @type {Writer} */ w, /** @type {Spanned} */ node, /** @type {() 
   w.leading(start);
   call();
   w.trailing(end);
-}
-
-/** Whether a node is broken into lines. */
-function isWide(/** @type {Writer} */ w, /** @type {Spanned} */ node) {
-  const [start, end] = node.span || NOWHERE;
-  return !w.isHeld() && end - start > WIDE;
 }
 
 /**
@@ -141,7 +132,7 @@ function literal(/** @type {Writer} */ w, /** @type {forms.Lit | forms.TsLit} */
 function template(w, quasis, parts, call) {
   w.write('`');
   (quasis || []).forEach((it, place) => {
-    w.pieces.push(it.raw);
+    w.raw(it.raw);
     if (parts && place < parts.length) {
       w.write('${');
       call(w, parts[place]);
@@ -208,10 +199,8 @@ function typeParameters(/** @type {Writer} */ w, /** @type {forms.TsTypeParamDec
 
 function parameters(/** @type {Writer} */ w, /** @type {Parameter[] | undefined} */ list) {
   const params = list || [];
-  const spans = params.flatMap((it) => (startOf(it) ? [spanOf(it) || NOWHERE] : []));
-  const width = spans.length ? spans[spans.length - 1][1] - spans[0][0] : 0;
-  const hasComments = spans.some((it) => w.hasLeading(it[0]));
-  listed(w, params, '(', ')', (width > WIDE && !w.isHeld()) || hasComments, pattern, afterLast(params));
+  const isWide = w.isWide((line) => separated(line, params, ', ', pattern)) || hasComments(w, params);
+  listed(w, params, '(', ')', isWide, pattern, afterLast(params));
 }
 
 /** The pattern of a parameter. */
@@ -227,6 +216,9 @@ function afterLast(/** @type {(Parameter | forms.ParamOrTsParamProp)[]} */ param
 
 /** The position at which a part begins; 0 where that is not known. */
 const startOf = (/** @type {forms.Part} */ node) => (spanOf(node) || NOWHERE)[0];
+
+/** Whether comments stand before a part of a list. */
+const hasComments = (/** @type {Writer} */ w, /** @type {forms.Part[]} */ list) => list.some((it) => w.hasLeading(startOf(it)));
 
 function functionType(/** @type {Writer} */ w, /** @type {forms.TsFnOrConstructorType} */ choice) {
   const [variant, node] = variantOf(choice);
@@ -254,9 +246,10 @@ function union(/** @type {Writer} */ w, /** @type {forms.TsUnionOrIntersectionTy
   const [variant, node] = variantOf(choice);
   const sign = variant === 'TsUnionType' ? '|' : '&';
   const loose = variant === 'TsUnionType' ? LOOSE : [...LOOSE, 'TsUnionType'];
+  const inLine = (/** @type {Writer} */ line) => separated(line, node.types, ` ${sign} `, (w_, it) => closer(w_, it, loose));
   at(w, node, () => {
-    if (!isWide(w, node)) {
-      separated(w, node.types, ` ${sign} `, (w_, it) => closer(w_, it, loose));
+    if (!w.isWide(inLine)) {
+      inLine(w);
       return;
     }
     w.indented(() => {
@@ -296,14 +289,15 @@ function mapped(/** @type {Writer} */ w, /** @type {forms.TsMappedType} */ node)
 }
 
 function conditional(/** @type {Writer} */ w, /** @type {forms.TsConditionalType} */ node) {
+  const isWide = w.isWide((line) => conditional(line, node));
   closer(w, node.check_type, LOOSE);
   w.write(' extends ');
   closer(w, node.extends_type, ['TsConditionalType']);
   const branches = () => {
-    separatedBranch(w, isWide(w, node), '? ', node.true_type);
-    separatedBranch(w, isWide(w, node), ': ', node.false_type);
+    separatedBranch(w, isWide, '? ', node.true_type);
+    separatedBranch(w, isWide, ': ', node.false_type);
   };
-  if (isWide(w, node)) w.indented(branches);
+  if (isWide) w.indented(branches);
   else branches();
 }
 
@@ -351,6 +345,11 @@ function tupleElement(/** @type {Writer} */ w, /** @type {forms.TsTupleElement} 
   });
 }
 
+function tuple(/** @type {Writer} */ w, /** @type {forms.TsTupleType} */ node) {
+  const isWide = w.isWide((line) => tuple(line, node));
+  listed(w, node.elem_types || [], '[', ']', isWide, tupleElement);
+}
+
 const KEYWORD = /^Ts(.*)Keyword$/;
 const OPERATORS = { KeyOf: 'keyof', Unique: 'unique', ReadOnly: 'readonly' };
 const POSTFIX = [...LOOSE, 'TsUnionType', 'TsIntersectionType', 'TsTypeOperator', 'TsInferType', 'TsTypeQuery'];
@@ -370,7 +369,7 @@ const TYPES = {
     closer(w, node.elem_type, POSTFIX.slice(0, -1));
     w.write('[]');
   },
-  TsTupleType: (w, node) => listed(w, node.elem_types || [], '[', ']', isWide(w, node), tupleElement),
+  TsTupleType: tuple,
   TsOptionalType: (w, node) => {
     closer(w, node.type_ann, POSTFIX);
     w.write('?');
@@ -478,10 +477,11 @@ function member(/** @type {Writer} */ w, /** @type {forms.TsTypeElement} */ choi
   });
 }
 
-/** Members in braces, on one line where they are few and short. */
+/** Members in braces, on one line where they are short and have no comments. */
 function members(/** @type {Writer} */ w, /** @type {forms.TsTypeElement[]} */ list, /** @type {Spanned} */ node) {
-  const wide = isWide(w, node) || list.some((it) => w.hasLeading(startOf(it)));
-  if (!wide && list.length) {
+  const [start, end] = node.span || NOWHERE;
+  const isCommented = hasComments(w, list) || w.hasLeading(end - 1) || w.hasTrailing(start + 1);
+  if (list.length && !isCommented && !w.isWide((line) => members(line, list, node))) {
     w.write('{ ');
     list.forEach((it, place) => {
       if (place) w.write(' ');
@@ -598,6 +598,6 @@ function pattern(/** @type {Writer} */ w, /** @type {Parameter} */ choice) {
 }
 
 module.exports = {
-  printBy, at, isWide, separated, listed, str, ident, name, privateName, literal, template, entity, annotation,
-  typeArguments, typeParameters, parameters, afterLast, startOf, type, indexSignature, memberLines, pattern,
+  printBy, at, separated, listed, str, ident, name, privateName, literal, template, entity, annotation,
+  typeArguments, typeParameters, parameters, afterLast, hasComments, type, indexSignature, memberLines, pattern,
 };

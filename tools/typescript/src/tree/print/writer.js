@@ -5,6 +5,8 @@
 /** @typedef {import('../types').Comments} Comments */
 
 const STEP = '  ';
+// The most characters that a list on one line has.
+const WIDE = 80;
 
 function byPosition(/** @type {[number, Comment[]][] | null | undefined} */ list) {
   return new Map(list || []);
@@ -37,6 +39,7 @@ class Writer {
     this.trailingAt = byPosition(comments && comments.trailing);
   }
 
+  /** Writes a part of a line. */
   write(/** @type {string} */ text) {
     if (!text) return;
     if (this.wantsLine) {
@@ -47,6 +50,11 @@ class Writer {
     }
     if (this.isLineStart) this.pieces.push(this.indent);
     this.isLineStart = false;
+    this.pieces.push(text);
+  }
+
+  /** Writes a text as it is, within a part of a line. */
+  raw(/** @type {string} */ text) {
     this.pieces.push(text);
   }
 
@@ -64,6 +72,11 @@ class Writer {
     return this.held === 1;
   }
 
+  /** Whether what a call writes is broken into lines: on a single one, and without comments, it is wide. The line after a comment such as `@ts-ignore` stays whole. */
+  isWide(/** @type {(line: Writer) => void} */ call) {
+    return !this.isHeld() && new Line(this).isExceeded(call);
+  }
+
   /** What is written in the call stands further to the right. */
   indented(/** @type {() => void} */ call) {
     const outer = this.indent;
@@ -75,7 +88,7 @@ class Writer {
   /** Writes a comment. One that expects an error only allows it in a skeleton, since the error may lie in what the skeleton leaves out. */
   comment(/** @type {{ kind: string, text: string }} */ written) {
     const isExpected = !this.asWritten && expectsError(written);
-    const comment = isExpected ? { ...written, text: written.text.replace('@ts-expect-error', '@ts-ignore') } : written;
+    const comment = isExpected ? { ...written, text: written.text.replace(/@ts-expect-error(?=[^\r\n]*$)/, '@ts-ignore') } : written;
     if (/@ts-(ignore|expect-error)/.test(comment.text)) this.held = 2;
     if (comment.kind === 'Line') this.write(`//${comment.text}`);
     else this.write(`/*${moved(comment.text, this.indent)}*/`);
@@ -110,10 +123,52 @@ class Writer {
     return this.leadingAt.has(position);
   }
 
+  hasTrailing(/** @type {number} */ position) {
+    return this.trailingAt.has(position);
+  }
+
   text() {
     const text = this.pieces.join('');
     return text && !text.endsWith('\n') ? `${text}\n` : text;
   }
 }
+
+/** A single line without comments, which is measured and not kept. */
+class Line extends Writer {
+  constructor(/** @type {Writer} */ outer) {
+    super(null);
+    this.isAmbient = outer.isAmbient;
+    this.asWritten = outer.asWritten;
+    this.isAngleReserved = outer.isAngleReserved;
+    this.width = 0;
+  }
+
+  /** Whether the call writes more than a list on one line has. It is left as soon as it does. */
+  isExceeded(/** @type {(line: Writer) => void} */ call) {
+    try {
+      call(this);
+    } catch (error) {
+      if (error !== EXCEEDED) throw error;
+    }
+    return this.width > WIDE;
+  }
+
+  write(/** @type {string} */ text) {
+    this.width += [...text].length;
+    if (this.width > WIDE) throw EXCEEDED;
+  }
+
+  raw(/** @type {string} */ text) {
+    this.write(text);
+  }
+
+  line() {}
+
+  isWide() {
+    return false;
+  }
+}
+
+const EXCEEDED = new Error('the line is wide');
 
 module.exports = { Writer };
