@@ -1,6 +1,7 @@
-//! `fast-check-source [--input] [--text PATH FILE].. DIR ..`: reads the packages of each folder, and answers what `fast-check build` answers of them: a skeleton or
+//! `fast-check-source [--input | --skeleton] [--text PATH FILE].. DIR ..`: reads the packages of each folder, and answers what `fast-check build` answers of them: a skeleton or
 //! the diagnostics of each of their public modules, with what is wrong with their files, the packages, and the files that were read, as a line of JSON. Of the
-//! folders behind `--input` it tells what `fast-check build` is asked, in place of the answers. In all folders behind `--text PATH FILE` the file at the path PATH
+//! folders behind `--input` it tells what `fast-check build` is asked, in place of the answers; of those after `--skeleton` it prints the skeletons as TypeScript,
+//! each in a line of JSON with its path, and nothing else. In all folders behind `--text PATH FILE` the file at the path PATH
 //! from the folder has the text of FILE, where it is there. The status is 2 where a package cannot be read, and else 1 where a module has diagnostics; 3 where
 //! memory runs out, and 4 where a line cannot be printed, each with a line on standard error.
 #![tactic(auto)]
@@ -15,12 +16,14 @@ mod lines;
 mod media;
 mod members;
 mod sources;
+mod texts;
 mod urls;
 mod world;
 
 use crate::answers::{Answered, build, input_of};
 use crate::follow::{Found, Reading, modules_of};
 use crate::lines::{Told, line_of};
+use crate::texts::texts_of;
 use anyhow::{Error, Result};
 use fast_check_source_configs::messages::Messages;
 use fast_check_source_configs::tsconfig::Projects;
@@ -82,6 +85,14 @@ fn status_of(messages: &Messages, has_diagnostics: bool) -> u8
     }
 }
 
+// What is asked of folders.
+#[derive(Clone, Copy, PartialEq, Eq)]
+enum Asked {
+    Answers,
+    Input,
+    Skeletons,
+}
+
 // What is told of the packages of a folder that can be read.
 fn told_of(alloc: Global, packages: &[&Package], found: Found, asks_input: bool) -> Result<Told> {
     let (input, own_names) = input_of(alloc, packages, found, asks_input)?;
@@ -99,7 +110,7 @@ fn tell(
     alloc: Global,
     packages: &[Package],
     reading: Reading,
-    asks_input: bool,
+    asks: Asked,
 ) -> Result<(String, u8)> {
     let Reading {
         found,
@@ -108,26 +119,24 @@ fn tell(
         ..
     } = reading;
     let asked = readable(alloc, packages, messages.errors.items.as_slice())?;
-    let told = told_of(alloc, asked.as_slice(), found, asks_input)?;
+    let told = told_of(alloc, asked.as_slice(), found, asks == Asked::Input)?;
     let status = status_of(&messages, told.has_diagnostics());
+    if let (Asked::Skeletons, Told::Answers(answered)) = (asks, &told) {
+        return Ok((texts_of(alloc, answered)?, status));
+    }
     let line = line_of(alloc, told, &messages, packages, read.as_slice())?;
     Ok((line, status))
 }
 
 // What is answered of a folder: a line, and the status.
-fn answer(
-    rt: &HostRuntime,
-    folder: &str,
-    texts: &[Text],
-    asks_input: bool,
-) -> Result<(String, u8)> {
+fn answer(rt: &HostRuntime, folder: &str, texts: &[Text], asks: Asked) -> Result<(String, u8)> {
     let alloc = rt.alloc();
     let files = Files::new(rt, folder, texts)?;
     let mut messages = Messages::new(alloc);
     let mut projects = Projects::new(alloc);
     let packages = packages_of(&files, &mut projects, &mut messages)?;
     let reading = modules_of(&files, packages.as_slice(), projects, messages)?;
-    tell(alloc, packages.as_slice(), reading, asks_input)
+    tell(alloc, packages.as_slice(), reading, asks)
 }
 
 // What the words behind `--text` say, if there are two.
@@ -151,15 +160,17 @@ fn run(rt: &HostRuntime) -> Result<u8> {
     let _ = words.next();
     let mut texts = Vec::new(rt.alloc());
     let mut status = 0;
-    let mut asks_input = false;
+    let mut asks = Asked::Answers;
     for _turn in 0..u64::MAX {
         let Some(word) = words.next() else {
             break;
         };
         if word.as_str() == "--input" {
-            asks_input = true;
+            asks = Asked::Input;
+        } else if word.as_str() == "--skeleton" {
+            asks = Asked::Skeletons;
         } else if word.as_str() != "--text" {
-            let (line, own) = answer(rt, word.as_str(), texts.as_slice(), asks_input)?;
+            let (line, own) = answer(rt, word.as_str(), texts.as_slice(), asks)?;
             if let Err(why) = println!(rt; "{line}") {
                 return Ok(fail(rt, why.into(), 4));
             }

@@ -15,12 +15,13 @@ const PROGRAM = sourceProgramFile(process.env);
 const skip = !PROGRAM && 'fast-check-source is not built';
 
 const CRATE = path.join(TOP, 'crates/fast_check_source');
-// The folders of the stored run, the last one behind `--input`, without the words that name texts.
-const NAMES = fs.readFileSync(path.join(CRATE, 'args'), 'utf8').replace(/^--text\n.*\n.*\n/gm, '').trim().split('\n').filter((it) => it !== '--input');
-const INPUT = '[ "$1" = --input ] && [ "${2##*/}" = package ] && tail -n 1 stdout';
+// The folders of the stored run, without the words that name texts: the last two after `--input` and `--skeleton`. The last one has two modules, and a line for each.
+const NAMES = fs.readFileSync(path.join(CRATE, 'args'), 'utf8').replace(/^--text\n.*\n.*\n/gm, '').trim().split('\n').filter((it) => !it.startsWith('--'));
+const INPUT = '[ "$1" = --input ] && [ "${2##*/}" = package ] && tail -n 3 stdout | head -n 1';
+const ANSWERS = 'if [ "$1" = --skeleton ]; then tail -n 2 stdout; else sed -n "$(grep -m 1 -nx "${1##*/}" args | cut -d : -f 1)p" stdout; fi';
 
 /** Runs words in the folder of the crate's data, with a program that prints what is wanted of a folder. */
-function runThere(/** @type {string[]} */ words, body = 'sed -n "$(grep -m 1 -nx "${1##*/}" args | cut -d : -f 1)p" stdout') {
+function runThere(/** @type {string[]} */ words, body = ANSWERS) {
   return new Promise((resolve, reject) => withFolder(async (folder) => {
     const program = path.join(folder, 'program');
     fs.writeFileSync(program, `#!/bin/sh\ncd ${CRATE} && ${body}\n`, { mode: 0o755 });
@@ -28,7 +29,7 @@ function runThere(/** @type {string[]} */ words, body = 'sed -n "$(grep -m 1 -nx
   }).catch(reject));
 }
 
-test('the program has a line for each folder', () => same(fs.readFileSync(path.join(CRATE, 'stdout'), 'utf8').trim().split('\n').length, NAMES.length));
+test('the program has a line for each folder', () => same(fs.readFileSync(path.join(CRATE, 'stdout'), 'utf8').trim().split('\n').length, NAMES.length + 1));
 test('check --reader source', async () => {
   const { status, out } = await runThere(['check', '--reader', 'source', 'other']);
   same(status, 1, 'the status');
@@ -234,6 +235,14 @@ for (const name of ['classes', 're-exports', 'workspace']) {
     const { status, out, err } = runWithout(['input'], path.join(PACKAGES, name));
     same(`${status} ${err}`, '0 ');
     same(out, `${JSON.stringify(linesAndInputs([path.join(PACKAGES, name)])[0].input)}\n`);
+  });
+}
+for (const name of ['classes', 'expando-keywords', 're-exports', 'workspace']) {
+  test(`the skeletons of ${name} need no compiler`, { skip }, async () => {
+    const { status, out, err } = runWithout(['skeleton'], path.join(PACKAGES, name));
+    const other = await run(['skeleton', '--no-cache', '--reader', 'typescript', '.'], { cwd: path.join(PACKAGES, name) });
+    same(`${status} ${err}`, '0 ');
+    same(out, other.out);
   });
 }
 for (const name of ['classes', 're-exports', 'workspace', 'single-returns', 'widened-literals', 'missing-type']) {

@@ -16,13 +16,31 @@ function declared(/** @type {World} */ world, /** @type {Printed[]} */ skeletons
   return [...skeletons.filter((it) => !names.has(it.name)), ...files];
 }
 
+/**
+ * The texts of the skeletons by the names of their modules, where the program has read the folder; else none.
+ *
+ * @param {string} dir
+ * @param {World} world
+ * @param {Options} options
+ * @param {Context} context
+ * @returns {Promise<Map<string, string>>}
+ */
+async function programTexts(dir, world, options, context) {
+  const { textsBySource } = require('../program/by-source.js');
+  const { sourceProgramFile } = require('../program/program.js');
+  const program = sourceProgramFile(context.environment);
+  if (!world.isBySource || !program || !world.skeletons.size) return new Map();
+  return textsBySource(program, dir, options, context);
+}
+
 /** The folder that was analysed, and what is printed of it: `{specifier, name, text, isPreview}` of each skeleton, or of each declaration file. */
 async function skeletonsOf(/** @type {string} */ dir, /** @type {Options} */ options, /** @type {Context} */ context) {
   const { analyse } = require('../program/answer.js');
   const { printed } = require('../skeleton/write.js');
   const world = await analyse(dir, { ...options, preview: true }, context);
+  const known = await programTexts(dir, world, options, context);
   context.progress.begin('printing');
-  const skeletons = options.dts ? [] : printed(world);
+  const skeletons = options.dts ? [] : printed(world, known);
   const texts = options.dts || options.withDts ? declared(world, skeletons, context) : skeletons;
   context.progress.end();
   return { world, skeletons: texts };

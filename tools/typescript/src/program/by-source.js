@@ -87,9 +87,9 @@ function unsavedIn(/** @type {string} */ root, /** @type {Map<string, string> | 
   });
 }
 
-/** Runs the program on a folder, with texts in place of those of some files. */
-function runOn(/** @type {string} */ program, /** @type {string} */ dir, /** @type {[file: string, text: string][]} */ unsaved, /** @type {RunContext} */ { progress, isCommand, signal }) {
-  const runBy = (/** @type {string[]} */ words) => run([program, ...words, dir], (line) => progress.line(line), signal);
+/** Runs the program on a folder by some words, with texts in place of those of some files. */
+function runOn(/** @type {string[]} */ asked, /** @type {string} */ dir, /** @type {[file: string, text: string][]} */ unsaved, /** @type {RunContext} */ { progress, isCommand, signal }) {
+  const runBy = (/** @type {string[]} */ words) => run([...asked, ...words, dir], (line) => progress.line(line), signal);
   if (!unsaved.length) return runBy([]);
   return withFolder(isCommand, (folder) => runBy(unsaved.flatMap(([file, text], at) => {
     const beside = path.join(folder, String(at));
@@ -103,7 +103,7 @@ function runOn(/** @type {string} */ program, /** @type {string} */ dir, /** @ty
 async function lineOf(/** @type {string} */ program, /** @type {string} */ dir, /** @type {[file: string, text: string][]} */ unsaved, /** @type {RunContext} */ context) {
   const known = ahead.get(dir);
   ahead.delete(dir);
-  return known === undefined ? lineBy(runOn(program, dir, unsaved, context), context) : known;
+  return known === undefined ? lineBy(runOn([program], dir, unsaved, context), context) : known;
 }
 
 /** The line that a run of the program on a folder prints. */
@@ -264,6 +264,24 @@ async function readBySource(program, dir, options, context) {
   return { answers: allAnswers(text, told), told, info: isRead ? folder.info : null, request: requestOf(folder.resolutions) };
 }
 
+/**
+ * The skeletons of a folder as the program prints them: their texts by the paths of their modules.
+ *
+ * @param {string} program
+ * @param {string} dir
+ * @param {AnalyseOptions} options
+ * @param {RunContext} context
+ * @returns {Promise<Map<string, string>>}
+ */
+async function textsBySource(program, dir, options, context) {
+  const lines = await lineBy(runOn([program, '--skeleton'], dir, unsavedIn(path.resolve(dir), options.texts), context), context);
+  return new Map(lines.split('\n').map((line) => {
+    /** @type {{ path: string, text: string }} */
+    const { path: name, text } = JSON.parse(line);
+    return [name, text];
+  }));
+}
+
 /** Whether a module of a request is nested too deep for the program that is asked. */
 function hasTooDeep(/** @type {import('./types').Request} */ { modules }) {
   return modules.some(([, { Esm }]) => Esm && tooDeep(/** @type {forms.Part} */ (/** @type {import('./types').Source} */ (Esm.source).program)));
@@ -284,4 +302,4 @@ async function inputBySource(program, dir, options, context) {
   return { input: isRead ? text : null, told };
 }
 
-module.exports = { inputBySource, readAhead, readBySource, textOf };
+module.exports = { inputBySource, readAhead, readBySource, textOf, textsBySource };

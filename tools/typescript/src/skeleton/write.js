@@ -36,13 +36,20 @@ function byName(texts) {
   return texts.sort((a, b) => (a.name < b.name ? -1 : a.name > b.name ? 1 : 0));
 }
 
-/** The printed skeletons of a folder, in the order of their names: `{specifier, name, text, isPreview}`. */
-function printed(/** @type {World} */ world) {
+/**
+ * The printed skeletons of a folder, in the order of their names: `{specifier, name, text, isPreview}`. `known` has the texts that the program has printed.
+ *
+ * @param {World} world
+ * @param {Map<string, string>} known
+ */
+function printed(world, known = new Map()) {
   const made = [];
   for (const { specifier, skeleton, mark } of shown(world)) {
     const file = world.files.get(specifier);
     const name = file ? file.name : specifier;
-    made.push({ specifier, name, text: mark + printedModule(name, skeleton, /\.d\.[cm]?ts$/.test(specifier)), isPreview: mark !== '' });
+    const own = mark === '' ? known.get(name) : undefined;
+    const text = own === undefined ? printedModule(name, skeleton, /\.d\.[cm]?ts$/.test(specifier)) : own;
+    made.push({ specifier, name, text: mark + text, isPreview: mark !== '' });
   }
   return byName(made);
 }
