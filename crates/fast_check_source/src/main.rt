@@ -87,7 +87,7 @@ fn status_of(messages: &Messages, has_diagnostics: bool) -> u8
 
 // What is asked of folders.
 #[derive(Clone, Copy, PartialEq, Eq)]
-enum Asked {
+enum Question {
     Answers,
     Input,
     Skeletons,
@@ -110,7 +110,7 @@ fn tell(
     alloc: Global,
     packages: &[Package],
     reading: Reading,
-    asks: Asked,
+    asks: Question,
 ) -> Result<(String, u8)> {
     let Reading {
         found,
@@ -119,9 +119,9 @@ fn tell(
         ..
     } = reading;
     let asked = readable(alloc, packages, messages.errors.items.as_slice())?;
-    let told = told_of(alloc, asked.as_slice(), found, asks == Asked::Input)?;
+    let told = told_of(alloc, asked.as_slice(), found, asks == Question::Input)?;
     let status = status_of(&messages, told.has_diagnostics());
-    if let (Asked::Skeletons, Told::Answers(answered)) = (asks, &told) {
+    if let (Question::Skeletons, Told::Answers(answered)) = (asks, &told) {
         return Ok((texts_of(alloc, answered)?, status));
     }
     let line = line_of(alloc, told, &messages, packages, read.as_slice())?;
@@ -129,7 +129,7 @@ fn tell(
 }
 
 // What is answered of a folder: a line, and the status.
-fn answer(rt: &HostRuntime, folder: &str, texts: &[Text], asks: Asked) -> Result<(String, u8)> {
+fn answer(rt: &HostRuntime, folder: &str, texts: &[Text], asks: Question) -> Result<(String, u8)> {
     let alloc = rt.alloc();
     let files = Files::new(rt, folder, texts)?;
     let mut messages = Messages::new(alloc);
@@ -160,15 +160,15 @@ fn run(rt: &HostRuntime) -> Result<u8> {
     let _ = words.next();
     let mut texts = Vec::new(rt.alloc());
     let mut status = 0;
-    let mut asks = Asked::Answers;
+    let mut asks = Question::Answers;
     for _turn in 0..u64::MAX {
         let Some(word) = words.next() else {
             break;
         };
         if word.as_str() == "--input" {
-            asks = Asked::Input;
+            asks = Question::Input;
         } else if word.as_str() == "--skeleton" {
-            asks = Asked::Skeletons;
+            asks = Question::Skeletons;
         } else if word.as_str() != "--text" {
             let (line, own) = answer(rt, word.as_str(), texts.as_slice(), asks)?;
             if let Err(why) = println!(rt; "{line}") {
