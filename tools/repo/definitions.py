@@ -19,7 +19,7 @@ INNER = "-- Inner: no contract of a public call cites what stands here."
 CHAPTERS = {
     "transform": {"fast_check_transform_module": ["transform"], "fast_check_transform_pair::transformer": None, "fast_check_meaning_skeleton": ["hash_mark"]},
     "law": {"fast_check_meaning_skeleton": ["two_worlds", "hidden_changes", "hidden_items"], "fast_check_transform_pair": None,
-            "fast_check_finder_unique": None},
+            "fast_check_finder_unique": None, "fast_check_build_unique": None},
     "account": {"fast_check_build": ["find_public_ranges", "find", "new"], "fast_check_finder_ranges": ["entry_order"]},
     "build": {
         "fast_check_build": None, "fast_check_build_answers": None, "fast_check_tables_cache::cache": None, "fast_check_tables_cache::item": None,

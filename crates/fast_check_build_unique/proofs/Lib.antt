@@ -1,0 +1,12 @@
+pub mod Corresponding
+pub mod Ranges
+pub mod Transformed
+pub mod Modules
+pub mod Sorted
+pub mod Alike
+pub mod Keys
+pub mod Zipped
+pub mod Reported
+pub mod Packages
+pub mod Builds
+pub mod Example

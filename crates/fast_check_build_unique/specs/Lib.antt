@@ -1,0 +1,5 @@
+pub mod Moved
+pub mod Lockstep
+pub mod Modules
+pub mod Builds
+pub mod Example
