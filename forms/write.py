@@ -19,6 +19,7 @@ from layout import imports
 from places import write_names, write_page, write_places
 from rows import write_proofs, write_rules
 from schema import write_schema
+from syntax import write_syntax
 from table import Table
 from typescript import write_types
 
@@ -28,7 +29,7 @@ ROOT = HERE.parent
 
 WRITERS = (
     write_form_crates, write_choices, write_schema, write_places, write_names, write_page, write_rules, write_proofs, write_types, write_json_schema,
-    write_diagnostics,
+    write_diagnostics, write_syntax,
 )
 WRITTEN = "Written by forms/write.py from forms/forms.txt"
 

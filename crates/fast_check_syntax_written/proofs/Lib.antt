@@ -1,0 +1,5 @@
+pub mod Clauses
+pub mod Levels
+pub mod Lines
+pub mod Passing
+pub mod Sequences
