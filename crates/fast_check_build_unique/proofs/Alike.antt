@@ -1,5 +1,5 @@
 -- Yields that correspond are about one package and module.
-use Rattle.std.proofs.Common.{◌≡◌, sym, ap, refl, Bool, true, false, ◌&&◌, [], ◌∷◌}
+use Rattle.std.proofs.Common.{◌≡◌, sym, ap, refl, Bool, true, ◌&&◌, [], ◌∷◌}
 use Rattle.std.specs.Str.{bytes_eq}
 use Rattle.std.proofs.lemmas.Bool.{false≢true, and_parts}
 use Rattle.fast_check_finder_demands.specs.asked.Demands.{Text, same_nv}

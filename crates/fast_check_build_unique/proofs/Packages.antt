@@ -47,7 +47,7 @@ use Rattle.fast_check_build_answers.specs.Answered.{by_text, by_nv, IsAnswered}
 use Rattle.fast_check_build.specs.Found.{IsFound}
 use Rattle.fast_check_finder_unique.specs.Edits.{SymbolRenaming}
 use Rattle.fast_check_finder_unique.proofs.Answered.{none_there}
-use Rattle.fast_check_build_unique.specs.Moved.{Renamings, corresponds}
+use Rattle.fast_check_build_unique.specs.Moved.{Renamings}
 use Rattle.fast_check_build_unique.specs.Modules.{DifferHidden, Found}
 use Rattle.fast_check_build_unique.specs.Builds.{AreVersions, HaveVersions, DifferHiddenly, SameBuilt}
 use Rattle.fast_check_build_unique.proofs.Modules.{to_second, to_first, answered_same}
