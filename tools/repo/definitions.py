@@ -40,6 +40,7 @@ CHAPTERS = {
         "fast_check_source_lexer": None, "fast_check_source_grammar": None, "fast_check_source_walks": None,
         "fast_check_source_parser": None,
     },
+    "syntax": {"fast_check_syntax_table": None, "fast_check_syntax_written": None},
 }
 # The laws of std's traits. What an `impl` gives for one is a proof, which the check reads and nobody has to believe.
 LAWS = {"laws", "total", "matches_eq", "matches_partial_cmp", "respects_eq"}

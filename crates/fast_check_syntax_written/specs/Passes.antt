@@ -1,3 +1,4 @@
+-- Inner: no contract of a public call cites what stands here.
 -- What a walk passes.
 use Rattle.std.specs.Prelude.{◌≡◌, List, map}
 use Rattle.fast_check_tree_syntax.specs.declared.tree.Tree.{Tree}
