@@ -12,8 +12,8 @@ const { isFrom } = require('../../src/compiler/typescript.js');
 
 // Packages in which a value has no type by its form, with a source that leads nowhere, and of which an older compiler reads other forms.
 const PASSED_OVER = isFrom(5, 9)
-  ? /^(dts-untold|dts-shadowed|missing-import|newer-.*|quoted-names|apart-.*|instead-.*)$/
-  : /^(dts-untold|dts-shadowed|dts-newer|missing-import|newer-.*|quoted-names|apart-.*|instead-.*)$/;
+  ? /^(dts-untold|dts-shadowed|missing-import|newer-.*|quoted-names|apart-.*|instead-.*|top-level-await)$/
+  : /^(dts-untold|dts-shadowed|dts-newer|missing-import|newer-.*|quoted-names|apart-.*|instead-.*|top-level-await)$/;
 
 // Packages whose declaration files are compared with what the compiler declares for the sources, since literals are wider there than in the skeletons.
 const AS_SOURCES = /^(dts-.*|verified-members|widened-literals)$/;
