@@ -2,7 +2,7 @@
 // Declaration files of skeletons: the same declarations without bodies and values. No type is inferred: a value that stays has one where its form says the type.
 
 const { blockOf, isMade, scopesOf } = require('./value-scopes.js');
-const { CONSTANT, WIDE, Untold, ValueTypes, annotated, isUnique, keyword, literalOf, madeLiteral } = require('./value-types.js');
+const { CONSTANT, KEPT, WIDE, Untold, ValueTypes, annotated, isUnique, keyword, literalOf, madeLiteral } = require('./value-types.js');
 const { placedIn, shadowedMessages } = require('./messages.js');
 const { enumValues } = require('./enum-values.js');
 const { saysExports } = require('../tables/ambient.js');
@@ -51,9 +51,16 @@ function withSources(node) {
   return /** @type {T} */ (made);
 }
 
+/** The name of a member under a number, however the number is written; null of another key. */
+function numericName(/** @type {forms.Part | undefined} */ key) {
+  const { Num: number, Computed: computed } = /** @type {Partial<forms.PropNameVariants>} */ (key || {});
+  const held = number || (computed && computed.expr.Lit && computed.expr.Lit.Num);
+  return held && held.raw ? String(Number(held.raw.replace(/_/g, ''))) : null;
+}
+
 /** The name of a member or a function, with what tells it from others of that name. */
 function keyOf(/** @type {forms.Part} */ { key, is_static, kind }) {
-  const name = key ? keyName(/** @type {forms.Part} */ (key)) : null;
+  const name = numericName(key) || (key ? keyName(/** @type {forms.Part} */ (key)) : null);
   const written = name === null ? JSON.stringify(key, (part, it) => (part === 'span' ? undefined : it)) : JSON.stringify(name);
   return `${written} ${Boolean(is_static)} ${kind}`;
 }
@@ -187,10 +194,10 @@ class Declarations {
     if (expr.Ident) return [item];
     /** @type {forms.Ident} */
     const id = { span: NONE, ctxt: 0, sym: this.freeName('_default'), optional: false };
-    const declarator = this.attempt(() => this.declarator({ span: NONE, name: { Ident: { id, type_ann: null } }, init: expr, definite: false }, CONSTANT));
-    if (!declarator) return [];
+    const type_ann = this.attempt(() => annotated(this.types.of(expr, KEPT)));
+    if (!type_ann) return [];
     /** @type {forms.Decl} */
-    const variable = { Var: { span, kind: 'Const', declare: true, decls: [declarator] } };
+    const variable = { Var: { span, kind: 'Const', declare: true, decls: [{ span: NONE, name: { Ident: { id, type_ann } }, init: null, definite: false }] } };
     return [{ Stmt: { Decl: variable } }, { ModuleDecl: { ExportDefaultExpr: { span: NONE, expr: { Ident: id } } } }];
   }
 

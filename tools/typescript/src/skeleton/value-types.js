@@ -3,6 +3,7 @@
 // here, and that is reported.
 
 const { spanOf, variantOf } = require('../tree/walk.js');
+const { mentioned } = require('./modules.js');
 
 /** @typedef {import('./types').Holder} Holder */
 /** @typedef {import('./value-scopes.js').Scope} Scope */
@@ -181,6 +182,8 @@ function negative(/** @type {forms.Lit} */ lit, /** @type {Holder} */ holder) {
 // What `typeof` may say, in the order of the compiler's declarations.
 const TYPE_NAMES = ['string', 'number', 'bigint', 'boolean', 'symbol', 'undefined', 'object', 'function'];
 
+// The comparisons by which a condition tells more of what a name stands for.
+const TESTS = new Set(['==', '!=', '===', '!==', 'in', 'instanceof']);
 const COMPARISONS = new Set(['==', '!=', '===', '!==', '<', '<=', '>', '>=', 'in', 'instanceof']);
 const ARITHMETIC = new Set(['+', '-', '*', '/', '%', '**', '<<', '>>', '>>>', '&', '|', '^']);
 
@@ -211,6 +214,25 @@ function operation(/** @type {forms.BinExpr} */ { op, left, right }) {
   const sides = [operand(left), operand(right)];
   if (op === '+' && sides.includes('String')) return 'String';
   return ARITHMETIC.has(op) && sides.every((it) => it === 'Number') ? 'Number' : null;
+}
+
+/**
+ * Whether a value compares something with what a name stands for, so that where it holds, the compiler may know a narrower type of that name.
+ *
+ * @returns {boolean}
+ */
+function isTestOf(/** @type {forms.Expr} */ value, /** @type {Set<string>} */ names) {
+  if (value.Paren) return isTestOf(value.Paren.expr, names);
+  return Boolean(value.Bin && TESTS.has(value.Bin.op) && [...mentioned(value.Bin).names].some((it) => names.has(it)));
+}
+
+/** The names of parameters that are no patterns, but for those of type `boolean`, of which the compiler makes no type predicate. */
+function plainNames(/** @type {forms.Pat[]} */ params) {
+  return new Set(params.flatMap((it) => {
+    const { Ident: name } = it.Assign ? it.Assign.left : it;
+    const type = name && name.type_ann && name.type_ann.type_ann.TsKeywordType;
+    return name && !(type && type.kind === 'TsBooleanKeyword') ? [name.id.sym] : [];
+  }));
 }
 
 /**
@@ -302,13 +324,25 @@ class ValueTypes {
   }
 
   /**
-   * The types of the branches of a condition, and of those within.
+   * The types of the branches of a condition, and of those within; `tested` are the names that the conditions around them test.
    *
    * @returns {forms.TsType[]}
    */
-  branches(/** @type {forms.Expr} */ value, /** @type {Holder} */ holder) {
-    if (value.Paren) return this.branches(value.Paren.expr, holder);
-    return value.Cond ? [value.Cond.cons, value.Cond.alt].flatMap((it) => this.branches(it, holder)) : [this.of(value, holder)];
+  branches(/** @type {forms.Expr} */ value, /** @type {Holder} */ holder, /** @type {string[]} */ tested = []) {
+    if (value.Paren) return this.branches(value.Paren.expr, holder, tested);
+    if (value.Cond) {
+      const { test, cons, alt } = value.Cond;
+      return [cons, alt].flatMap((it) => this.branches(it, holder, [...tested, ...this.variables(test)]));
+    }
+    if (!operand(value) && this.variables(value).some((it) => tested.includes(it))) {
+      throw new Untold(spanOf(value), 'the condition tests a name that is read here, which may have a narrower type');
+    }
+    return [this.of(value, holder)];
+  }
+
+  /** The names in a value that stand for no class, function, namespace or global variable: a test may narrow their types. */
+  variables(/** @type {forms.Expr} */ value) {
+    return [...mentioned(value).names].filter((sym) => this.scope.find({ Ident: { span: NONE, ctxt: 0, sym, optional: false } }).form !== 'other');
   }
 
   /** @returns {forms.TsType} */
@@ -404,6 +438,7 @@ class ValueTypes {
   Arrow(/** @type {forms.ArrowExpr} */ node) {
     if (node.return_type) return this.functionType(node, node.return_type);
     if (node.is_async || !node.body.Expr) throw new Untold(node.span, 'the function has no written return type');
+    if (isTestOf(node.body.Expr, plainNames(node.params || []))) throw new Untold(node.span, 'a function that answers a test of its parameter may have a type predicate');
     const inner = new ValueTypes(this.scope.within(node.params));
     return this.functionType(node, annotated(inner.of(node.body.Expr, RETURNED)));
   }
@@ -518,4 +553,4 @@ class ValueTypes {
   }
 }
 
-module.exports = { CONSTANT, WIDE, Untold, ValueTypes, annotated, isUnique, keyword, literalOf, madeLiteral, textOf };
+module.exports = { CONSTANT, KEPT, WIDE, Untold, ValueTypes, annotated, isUnique, keyword, literalOf, madeLiteral, textOf };

@@ -19,3 +19,7 @@ export const asserted = told!;
 export class Holder {
   first = told[0];
 }
+export const isText = (it: unknown) => typeof it === "string";
+export const isFirst = (it: { kind: "a" } | { kind: "b" }) => (it.kind === "a");
+export const narrowed = outside.it ? outside.it : 0;
+export const nested = (it: string | undefined) => it === undefined ? "" : it ? it : "empty";

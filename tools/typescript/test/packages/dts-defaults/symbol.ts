@@ -1,0 +1,1 @@
+export default Symbol.iterator;
