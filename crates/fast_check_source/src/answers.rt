@@ -2,7 +2,7 @@
 use crate::asked::asked_names;
 use crate::follow::Found;
 use crate::members::{members_of, pending_of};
-use crate::world::world_of;
+use crate::world::{World, world_of};
 use anyhow::Result;
 use fast_check_build::answers::{ModuleAnswer, PackageAnswer};
 use fast_check_build::build_packages;
@@ -14,13 +14,44 @@ use fast_check_tables_graph::{AnyModuleInfo, ModuleGraph, RootSymbol};
 use fast_check_tables_modules::EsModuleInfo;
 use fast_check_tables_modules::diagnostics::FastCheckDiagnostic;
 use fast_check_tables_packages::{ListedPackages, PackageNv, WorkspaceMember};
+use fast_check_tables_symbols::ModuleTables;
 use fast_check_transform_module::TransformOptions;
 use fast_check_tree_syntax::Tree;
 use std::alloc::{AllocError, Global};
 use std::collections::{BTreeMap, BTreeSet, VecDeque};
 use url::Url;
 
-// Notes the names that each of the modules answers. Where an input is printed all of them are noted, and else those that a module may be asked for.
+// Notes the names that a module answers.
+fn put_names(
+    alloc: Global,
+    world: &World,
+    url: &Url,
+    resolved: Option<&BTreeMap<String, Url>>,
+    names: Vec<(String, Url)>,
+    tables: &mut ModuleTables,
+) -> Result<(), AllocError> {
+    tables.resolved_exports = names;
+    let mut nodes = Vec::new(alloc);
+    std::mem::swap(&mut nodes, &mut tables.re_export_all_nodes);
+    tables.re_export_all_nodes = world.in_order(alloc, url, resolved, nodes)?;
+    Ok(())
+}
+
+// The names that each of the modules answers. Where an input is printed all of them are told, and else those that a module may be asked for.
+fn answered_by(
+    alloc: Global,
+    world: &World,
+    modules: &BTreeMap<Url, Parsed>,
+    asks_input: bool,
+) -> Result<Vec<Vec<(String, Url)>>, AllocError> {
+    if asks_input {
+        return world.all_answered(alloc, &None);
+    }
+    let asked = Some(asked_names(alloc, modules)?);
+    world.all_answered(alloc, &asked)
+}
+
+// Notes the names that the modules answer.
 fn put_all_names(
     alloc: Global,
     modules: &mut BTreeMap<Url, Parsed>,
@@ -28,17 +59,20 @@ fn put_all_names(
     asks_input: bool,
 ) -> Result<(), AllocError> {
     let world = world_of(alloc, &*modules, resolutions)?;
-    let answered = if asks_input {
-        world.all_answered(alloc, &None)?
-    } else {
-        world.all_answered(alloc, &Some(asked_names(alloc, &*modules)?))?
-    };
-    for ((url, module), names) in modules.iter_mut().zip(answered) {
-        let tables = &mut module.tables;
-        tables.resolved_exports = names;
-        let mut nodes = Vec::new(alloc);
-        std::mem::swap(&mut nodes, &mut tables.re_export_all_nodes);
-        tables.re_export_all_nodes = world.in_order(alloc, url, resolutions.get(url), nodes)?;
+    let mut answered = answered_by(alloc, &world, &*modules, asks_input)?.into_iter();
+    for (url, module) in modules.iter_mut() {
+        let names = match answered.next() {
+            Some(names) => names,
+            None => Vec::new(alloc),
+        };
+        put_names(
+            alloc,
+            &world,
+            url,
+            resolutions.get(url),
+            names,
+            &mut module.tables,
+        )?;
     }
     Ok(())
 }
